@@ -1,0 +1,79 @@
+// Free bits: bit i % 64 of word i / 64 is 1 where entry i is free.
+ghost use mathlib.Core.Path.{_≡_};
+ghost use Prim.Native.Nat.{_*_, _≤_, _<_, _^_};
+ghost use lib.ListN.{length};
+ghost use Rattle.pools.specs.Pool.{lowest, count};
+ghost use Rattle.pools.specs.Bits.{bit, free, taken, released};
+
+// The number whose one bit is bit k.
+fn power(k: usize) -> u64
+    requires { ⌜ k < 64 ⌝ }
+    ensures { λ r. ⌜ r ≡ 2 ^ k ⌝ }
+{
+    1 << k
+}
+
+// Bit k of x.
+fn bit_of(x: u64, k: usize) -> u64
+    requires { ⌜ k < 64 ⌝ }
+    ensures { λ r. ⌜ r ≡ bit x k ⌝ }
+{
+    (x >> k) % 2
+}
+
+// Is entry i free? Past the last word none is.
+pub fn is_free(w: &[u64], i: usize) -> bool
+    ensures { λ r. ⌜ r ≡ free (now (w .entry)) i ⌝ }
+{
+    if i / 64 < w.len() {
+        return bit_of(w[i / 64], i % 64) == 1;
+    }
+    false
+}
+
+// Entry i is free no more.
+pub fn take(w: &mut [u64], i: usize)
+    ensures { λ _. ⌜ now (w .exit) ≡ taken (now (w .entry)) i ⌝ }
+{
+    if i / 64 < w.len() {
+        let x = w[i / 64];
+        w[i / 64] = x - bit_of(x, i % 64) * power(i % 64);
+    }
+}
+
+// Entry i is free again.
+pub fn release(w: &mut [u64], i: usize)
+    ensures { λ _. ⌜ now (w .exit) ≡ released (now (w .entry)) i ⌝ }
+{
+    if i / 64 < w.len() {
+        let x = w[i / 64];
+        w[i / 64] = x + (1 - bit_of(x, i % 64)) * power(i % 64);
+    }
+}
+
+// The lowest free entry of n, looking at the bits one after the other; n where none is free.
+pub fn lowest_free(w: &[u64], n: usize) -> usize
+    ensures { λ r. ⌜ r ≡ lowest (free (now (w .entry))) n ⌝ }
+{
+    let mut i = 0;
+    while i < n {
+        if is_free(w, i) {
+            return i;
+        }
+        i += 1;
+    }
+    n
+}
+
+// How many of n entries are free.
+pub fn count_free(w: &[u64], n: usize) -> usize
+    ensures { λ r. ⌜ r ≡ count (free (now (w .entry))) n ⌝ }
+{
+    let mut c: usize = 0;
+    let mut i = 0;
+    while i < n {
+        c += is_free(w, i) as usize;
+        i += 1;
+    }
+    c
+}
