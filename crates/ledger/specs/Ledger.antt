@@ -1,0 +1,92 @@
+-- What the reckoning keeps: who and what is there. Things go by their ids, never by where they are kept. Assumes nothing.
+use Prim.Native.Nat.{ℕ, _%_, _/_}
+use mathlib.Core.Bool.{Bool, _&&_, _||_, not}
+use mathlib.Core.List.{List, []}
+use lib.Dec.{eqb}
+use Rattle.ledger.specs.Call.{Sizes}
+
+pub record Actor : Type 0 where
+  pub id : ℕ
+  pub priority : ℕ
+
+-- a message: whom it is for, and what it says
+pub record Message : Type 0 where
+  pub to : ℕ
+  pub sender : ℕ
+  pub class : ℕ
+  pub tag : ℕ
+  pub payload : List ℕ
+
+pub record Timer : Type 0 where
+  pub id : ℕ
+  pub owner : ℕ
+  pub due : ℕ
+  pub interval : ℕ
+
+pub record Link : Type 0 where
+  pub one : ℕ
+  pub two : ℕ
+
+pub record Monitor : Type 0 where
+  pub id : ℕ
+  pub watcher : ℕ
+  pub target : ℕ
+
+-- the live actors; the id of the one that runs, 0 where none does; the worn slots
+pub record People : Type 0 where
+  pub live : List Actor
+  pub running : ℕ
+  pub worn : List ℕ
+
+-- the messages in the mailboxes, in arrival order; those in hands
+pub record Mail : Type 0 where
+  pub boxes : List Message
+  pub hands : List Message
+
+-- the clock; the timers; the worn slots
+pub record Time : Type 0 where
+  pub clock : ℕ
+  pub timers : List Timer
+  pub worn : List ℕ
+
+-- the links; the monitors; the worn slots of monitors
+pub record Ties : Type 0 where
+  pub links : List Link
+  pub monitors : List Monitor
+  pub worn : List ℕ
+
+pub record Ledger : Type 0 where
+  pub sizes : Sizes
+  pub people : People
+  pub mail : Mail
+  pub time : Time
+  pub ties : Ties
+
+-- ---- the parts, made and replaced
+abbrev pub people : List Actor → ℕ → List ℕ → People
+people live running worn = record { live = live; running = running; worn = worn }
+
+abbrev pub mail : List Message → List Message → Mail
+mail boxes hands = record { boxes = boxes; hands = hands }
+
+abbrev pub time : ℕ → List Timer → List ℕ → Time
+time clock timers worn = record { clock = clock; timers = timers; worn = worn }
+
+abbrev pub ties : List Link → List Monitor → List ℕ → Ties
+ties links monitors worn = record { links = links; monitors = monitors; worn = worn }
+
+abbrev pub withPeople : Ledger → People → Ledger
+withPeople l p = record { sizes = l .sizes; people = p; mail = l .mail; time = l .time; ties = l .ties }
+
+abbrev pub withMail : Ledger → Mail → Ledger
+withMail l m = record { sizes = l .sizes; people = l .people; mail = m; time = l .time; ties = l .ties }
+
+abbrev pub withTime : Ledger → Time → Ledger
+withTime l t = record { sizes = l .sizes; people = l .people; mail = l .mail; time = t; ties = l .ties }
+
+abbrev pub withTies : Ledger → Ties → Ledger
+withTies l t = record { sizes = l .sizes; people = l .people; mail = l .mail; time = l .time; ties = t }
+
+-- "A successful start frees every entry, sets ages and clock to 0 .. and begins demand 3's reckoning anew"
+abbrev pub nothing : Sizes → Ledger
+nothing z = record { sizes = z; people = people [] 0 []; mail = mail [] []; time = time 0 [] []; ties = ties [] [] [] }

@@ -1,0 +1,35 @@
+-- Lists of things, as a person reckons with them. Assumes nothing.
+use Prim.Native.Nat.{ℕ, zero, suc, _%_, _/_}
+use mathlib.Core.Bool.{Bool, true, false, cond, _&&_, _||_}
+use mathlib.Core.List.{List, [], _∷_, _++_}
+use lib.Dec.{eqb, ltb}
+
+module _ {A : Type 0} where
+  -- those that pass, in their order
+  unfoldable pub those : (A → Bool) → List A → List A
+  those p [] = []
+  those p (x ∷ xs) = cond (p x) (x ∷ those p xs) (those p xs)
+
+  -- one of them passes
+  unfoldable pub some : (A → Bool) → List A → Bool
+  some p [] = false
+  some p (x ∷ xs) = p x || some p xs
+
+  -- the first that passes alone, or nothing; and the list without it
+  unfoldable pub first : (A → Bool) → List A → List A
+  first p [] = []
+  first p (x ∷ xs) = cond (p x) (x ∷ []) (first p xs)
+
+  unfoldable pub butFirst : (A → Bool) → List A → List A
+  butFirst p [] = []
+  butFirst p (x ∷ xs) = cond (p x) xs (x ∷ butFirst p xs)
+
+  -- those whose slot is below n, by ascending slot
+  unfoldable pub bySlot : (A → ℕ) → ℕ → List A → List A
+  bySlot slot zero xs = []
+  bySlot slot (suc n) xs = bySlot slot n xs ++ those (λ x. eqb (slot x) n) xs
+
+-- x in k bytes, the low byte first
+abbrev pub bytes : ℕ → ℕ → List ℕ
+bytes zero x = []
+bytes (suc k) x = x % 256 ∷ bytes k (x / 256)
