@@ -1,0 +1,5 @@
+-- Laws that belong to no one function.
+pub mod ActionLaws
+pub mod LoopLaws
+pub mod RowLaws
+pub mod ViewLaws

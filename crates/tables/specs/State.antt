@@ -1,0 +1,112 @@
+-- The state of a runtime, a column for each number, and how it lies in the two lent buffers. Assumes nothing.
+use Prim.Native.Nat.{ℕ, zero, suc, _+_, _-_, _*_, _≤_}
+use mathlib.Core.Path.{_≡_}
+use mathlib.Core.Bool.{cond}
+use mathlib.Core.List.{List, [], _∷_, _++_}
+use lib.ListN.{length, getD, set, take, drop, replicate}
+use lib.Dec.{eqb, ltb}
+use Rattle.tables.specs.declared.Caps.{Caps}
+
+abbrev pub State : Type 0
+State = ℕ → List ℕ
+
+-- word i of column c; 0 where it has none
+abbrev pub at : State → ℕ → ℕ → ℕ
+at s c i = getD (s c) i 0
+
+-- the word of a column of the head
+abbrev pub head : State → ℕ → ℕ
+head s c = at s c 0
+
+-- column c anew
+unfoldable pub with-col : State → ℕ → List ℕ → State
+with-col s c l d = cond (eqb d c) l (s d)
+
+-- word i of column c anew; nothing where the column has no word i
+unfoldable pub poke : State → ℕ → ℕ → ℕ → State
+poke s c i v = with-col s c (set (s c) i v)
+
+-- ---- a buffer as a row of columns of the sizes ns, and what is past them as one more
+unfoldable pub cut : List ℕ → List ℕ → State
+cut [] w zero = w
+cut [] w (suc c) = []
+cut (n ∷ ns) w zero = take n w
+cut (n ∷ ns) w (suc c) = cut ns (drop n w) c
+
+abbrev pub sum : List ℕ → ℕ
+sum [] = 0
+sum (n ∷ ns) = n + sum ns
+
+-- the columns 0 to n, one after the other
+unfoldable pub glue : ℕ → State → List ℕ
+glue zero f = f 0
+glue (suc n) f = f 0 ++ glue n (λ c. f (suc c))
+
+-- ---- the sizes of this runtime's columns: "the number of words needed as a formula of the capacities"
+abbrev pub sizes : Caps → List ℕ
+sizes k =
+    replicate 16 1
+    ++ (replicate 2 4
+    ++ (replicate 10 (k .actors)
+    ++ (replicate 3 (k .mails)
+    ++ (replicate 2 (k .datas) ++ (replicate 2 (k .links) ++ (replicate 3 (k .monitors) ++ replicate 4 (k .timers)))))))
+
+-- "Data entry n begins at byte 256 × n of the area"
+abbrev pub sizesP : Caps → List ℕ
+sizesP k = 256 * k .datas ∷ []
+
+abbrev pub size : Caps → ℕ → ℕ
+size k c = getD (sizes k) c 0
+
+abbrev pub start : Caps → ℕ → ℕ
+start k c = sum (take c (sizes k))
+
+abbrev pub needed : Caps → ℕ
+needed k = 24 + k .actors * 10 + k .mails * 3 + k .datas * 2 + k .links * 2 + k .monitors * 3 + k .timers * 4
+
+abbrev pub neededP : Caps → ℕ
+neededP k = 256 * k .datas
+
+-- ---- there and back
+unfoldable pub view : Caps → List ℕ → List ℕ → State
+view k w p c = cond (ltb c 43) (cut (sizes k) w c) (cut (sizesP k) p (c - 43))
+
+unfoldable pub joinW : State → List ℕ
+joinW s = glue 42 s
+
+unfoldable pub joinP : State → List ℕ
+joinP s = glue 1 (λ c. s (43 + c))
+
+-- the capacities that the head states
+abbrev pub capsOf : List ℕ → Caps
+capsOf w = record {
+  actors = getD w 0 0;
+  mails = getD w 1 0;
+  datas = getD w 2 0;
+  links = getD w 3 0;
+  monitors = getD w 4 0;
+  timers = getD w 5 0;
+}
+
+-- "Capacities and ids": the range of each pool at start
+pub record InRange (k : Caps) : Type 0 where
+  pub someActors : 1 ≤ k .actors
+  pub fewActors : k .actors ≤ 64
+  pub someMails : 1 ≤ k .mails
+  pub fewMails : k .mails ≤ 256
+  pub someDatas : 1 ≤ k .datas
+  pub fewDatas : k .datas ≤ 256
+  pub fewLinks : k .links ≤ 128
+  pub fewMonitors : k .monitors ≤ 128
+  pub fewTimers : k .timers ≤ 64
+
+-- the capacities are in range, and both buffers hold what they ask for: what every function inside asks
+pub record Room (k : Caps) (w p : List ℕ) : Type 0 where
+  pub caps : InRange k
+  pub words : needed k ≤ length w
+  pub bytes : neededP k ≤ length p
+
+-- the buffers hold the state s, with what the next function asks: what every function inside leaves
+pub record Left (k : Caps) (s : State) (w p : List ℕ) : Type 0 where
+  pub is : view k w p ≡ s
+  pub room : Room k w p

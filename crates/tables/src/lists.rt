@@ -1,0 +1,55 @@
+// Counted lists: a column whose first words count, and a word of the head that says how many.
+ghost use mathlib.Core.Path.{_≡_};
+ghost use Prim.Native.Nat.{_<_, _≤_};
+ghost use lib.ListN.{length};
+ghost use Rattle.tables.specs.State.{head, with-col, view, size, Room, Left};
+ghost use Rattle.tables.specs.Action.{closed, push, pull};
+use crate::Caps;
+use crate::layout::place_of;
+use crate::words::get;
+use crate::words::put;
+
+// v joins the tail.
+pub fn push(t: &mut [u64], p: &[u8], k: Caps, list: usize, count: usize, v: u64)
+    requires { ⌜ Room k (now t) (now p) × (list < 42) × (count < 42) × (head (view k (now t) (now p)) count ≤ 4096) ⌝ }
+    ensures { λ _. ⌜ Left k (push (view k (now (t .entry)) (now (p .entry))) list count v) (now (t .exit)) (now (p .entry)) ⌝ }
+{
+    let n = get(t, p, k, count, 0);
+    put(t, p, k, list, n, v);
+    put(t, p, k, count, 0, n + 1);
+}
+
+// The words of q after its j-th move up by one, and the last is 0.
+fn close_up(q: &mut [u64], j: usize)
+    requires { ⌜ j < length (now q) ⌝ }
+    ensures { λ _. ⌜ now (q .exit) ≡ closed (length (now (q .entry))) j (now (q .entry)) ⌝ }
+{
+    let n = q.len() - 1;
+    let mut i = j;
+    while i < n {
+        q[i] = q[i + 1];
+        i += 1;
+    }
+    q[n] = 0;
+}
+
+// The j-th of the n words of column c leaves.
+fn close_column(t: &mut [u64], p: &[u8], k: Caps, c: usize, n: usize, j: usize)
+    requires { ⌜ Room k (now t) (now p) × (c < 42) × (n ≤ size k c) × (j < n) ⌝ }
+    ensures { λ _. ⌜ Left k (with-col (view k (now (t .entry)) (now (p .entry))) c (closed n j (view k (now (t .entry)) (now (p .entry)) c))) (now (t .exit)) (now (p .entry)) ⌝ }
+{
+    let place = place_of(k, c);
+    let from = place.from;
+    let end = from + n;
+    close_up(&mut t[from..end], j);
+}
+
+// The j-th of a list leaves it.
+pub fn pull(t: &mut [u64], p: &[u8], k: Caps, list: usize, count: usize, j: u64)
+    requires { ⌜ Room k (now t) (now p) × (list < 42) × (count < 42) × (j < head (view k (now t) (now p)) count) × (head (view k (now t) (now p)) count ≤ size k list) ⌝ }
+    ensures { λ _. ⌜ Left k (pull (view k (now (t .entry)) (now (p .entry))) list count j) (now (t .exit)) (now (p .entry)) ⌝ }
+{
+    let n = get(t, p, k, count, 0);
+    close_column(t, p, k, list, n as usize, j as usize);
+    put(t, p, k, count, 0, n - 1);
+}
