@@ -1,0 +1,51 @@
+-- What a host call promises of its answer and of both buffers, for any rule; and start. Assumes nothing.
+use Prim.Native.Nat.{ℕ, _+_, _-_, _*_, _^_, min}
+use mathlib.Core.Path.{_≡_}
+use mathlib.Core.Bool.{Bool, cond, _&&_}
+use mathlib.Core.List.{List}
+use lib.ListN.{length, replicate}
+use lib.Dec.{eqb, leb}
+use Rattle.tables.specs.declared.Caps.{Caps}
+use Rattle.tables.specs.Columns.{ACTORS, DATA-FREE, DATAS, LINKS, MAIL-FREE, MAILS, MONITORS, PAST, PAYLOAD, REST, TIMERS}
+use Rattle.tables.specs.State.{State, capsOf, joinP, joinW, needed, neededP, poke, size, view}
+use Rattle.rules.specs.Rule.{test}
+use Rattle.rules.specs.Sound.{rangeRule, soundRule, viewOf}
+use Rattle.rules.specs.Calls.{Out}
+
+-- "Buffers that hold no sound runtime are refused by every call but start": the answer `seven` and nothing changed;
+-- any others give the answer of the rule, and every word and byte is that of the state it leaves
+pub record Called {A : Type 0} (seven : A) (rule : Caps → State → Out A) (w p : List ℕ) (r : A) (w′ p′ : List ℕ) : Type 0 where
+  pub ans : r ≡ cond (test (soundRule w p)) (rule (capsOf w) (viewOf w p) .ans) seven
+  pub words : w′ ≡ cond (test (soundRule w p)) (joinW (rule (capsOf w) (viewOf w p) .state)) w
+  pub bytes : p′ ≡ cond (test (soundRule w p)) (joinP (rule (capsOf w) (viewOf w p) .state)) p
+
+-- ---- start
+-- "zeros the needed payload bytes", and every needed word; "Words and bytes past the needed ones are never changed"
+unfoldable pub zeroed : Caps → State → State
+zeroed k s c =
+    cond (eqb c REST) (s REST)
+    (cond (eqb c PAST) (s PAST) (cond (eqb c PAYLOAD) (replicate (neededP k) 0) (replicate (size k c) 0)))
+
+-- the six capacities
+unfoldable pub stated : Caps → State → State
+stated k s =
+    poke (poke (poke (poke (poke (poke s ACTORS 0 (k .actors)) MAILS 0 (k .mails)) DATAS 0 (k .datas)) LINKS 0 (k .links)) MONITORS 0 (k .monitors)) TIMERS 0 (k .timers)
+
+-- "A successful start frees every entry": word j of the free bits of n entries
+abbrev pub ones : ℕ → ℕ → ℕ
+ones n j = 2 ^ min 64 (n - 64 * j) - 1
+
+unfoldable pub freed : ℕ → ℕ → State → State
+freed c n s = poke (poke (poke (poke s c 0 (ones n 0)) c 1 (ones n 1)) c 2 (ones n 2)) c 3 (ones n 3)
+
+unfoldable pub fresh : Caps → State → State
+fresh k s = freed DATA-FREE (k .datas) (freed MAIL-FREE (k .mails) (stated k (zeroed k s)))
+
+-- "buffers too short for the capacities are 1 there"
+abbrev pub canStart : Caps → List ℕ → List ℕ → Bool
+canStart k w p = test (rangeRule k) && (leb (needed k) (length w) && leb (neededP k) (length p))
+
+pub record Started (k : Caps) (w p : List ℕ) (r : ℕ) (w′ p′ : List ℕ) : Type 0 where
+  pub ans : r ≡ cond (canStart k w p) 0 1
+  pub words : w′ ≡ cond (canStart k w p) (joinW (fresh k (view k w p))) w
+  pub bytes : p′ ≡ cond (canStart k w p) (joinP (fresh k (view k w p))) p

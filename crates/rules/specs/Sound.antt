@@ -1,0 +1,221 @@
+-- What a sound runtime is: the paragraph "Sound means" of document 01, a rule for each of its clauses, with the clause above it. Assumes nothing.
+use Prim.Native.Nat.{ℕ, suc, _+_, _-_, _*_, _^_}
+use mathlib.Core.Bool.{Bool, not}
+use mathlib.Core.List.{List}
+use mir.Val.{boolByte}
+use lib.ListN.{length, getD, take}
+use lib.Dec.{eqb}
+use Rattle.pools.specs.Pool.{occurs}
+use Rattle.pools.specs.Bits.{free}
+use Rattle.pools.specs.Slot.{ageOf, slotOf}
+use Rattle.records.specs.Header.{classOf, markOf, tagOf}
+use Rattle.tables.specs.declared.Caps.{Caps}
+use Rattle.tables.specs.Columns.{ACTORS, AGE, ARRIVAL, ARRIVED, CLOCK, DATA-FREE, DATAS, DEADLINE, DUE, HAND, INTERVAL, LENGTH, LINK-ONE, LINK-TWO, LINKS, MAIL-DATA, MAIL-FREE, MAIL-OWNER, MAILS, MONITOR-AGE, MONITORS, PAYLOAD, PRIORITY, QUEUE, QUEUED, REASON, RUNNING, SENDER, STATE, TIMER-AGE, TIMER-OWNER, TIMERS, WANT-CLASS, WANT-SENDER, WANT-TAG, WATCHED, WATCHER}
+use Rattle.tables.specs.State.{State, at, head, view, capsOf, size, neededP, Room}
+use Rattle.rules.specs.Rule.{Rule, is, le, lt, eq, differ, both, imp, each, Holds}
+use Rattle.rules.specs.Terms.{ANY-CLASS, ANY-SENDER, ANY-TAG, CLOCK-END, FREE, LONGEST, OLDEST, PAYLOAD-MOST, RUNNABLE, RUNS, WAITS, alive, awaits, header, joins, runner}
+
+-- ---- "capacities .. in range"
+abbrev pub rangeRule : Caps → Rule
+rangeRule k =
+    both (both (both (le 1 (k .actors)) (le (k .actors) 64)) (both (le 1 (k .mails)) (le (k .mails) 256)))
+    (both (both (le 1 (k .datas)) (le (k .datas) 256))
+    (both (le (k .links) 128) (both (le (k .monitors) 128) (le (k .timers) 64))))
+
+-- "or a buffer is too short": every column has all its words, and the payload area all its bytes
+unfoldable pub sizeRule : Caps → State → Rule
+sizeRule k s = both (each 42 (λ c. eq (length (s c)) (size k c))) (eq (length (s PAYLOAD)) (neededP k))
+
+abbrev pub fitRule : Caps → State → Rule
+fitRule k s = both (rangeRule k) (sizeRule k s)
+
+-- ---- the head: it states the capacities; "clock in range"; the lists are no longer than their columns; "unused words are 0"
+abbrev pub capsRule : Caps → State → Rule
+capsRule k s =
+    both (both (eq (head s ACTORS) (k .actors)) (both (eq (head s MAILS) (k .mails)) (eq (head s DATAS) (k .datas))))
+    (both (eq (head s LINKS) (k .links)) (both (eq (head s MONITORS) (k .monitors)) (eq (head s TIMERS) (k .timers))))
+
+abbrev pub headRule : Caps → State → Rule
+headRule k s =
+    both (both (le (head s CLOCK) CLOCK-END) (le (runner s) (k .actors)))
+    (both (le (head s QUEUED) (k .actors)) (le (head s ARRIVED) (k .mails)))
+
+abbrev pub spareRule : State → ℕ → Rule
+spareRule s i = eq (head s (10 + i)) 0
+
+-- ---- actors
+-- "actor states, priorities, runnable reasons, .. ages (0 only if free) .. in range"; a hand names a data entry
+abbrev pub actorRule : Caps → State → ℕ → Rule
+actorRule k s a =
+    both (both (le (at s STATE a) WAITS) (both (le (at s PRIORITY a) 3) (le (at s REASON a) 2)))
+    (both (both (le (at s AGE a) OLDEST) (imp (eq (at s AGE a) 0) (eq (at s STATE a) FREE))) (le (at s HAND a) (k .datas)))
+
+-- "unused words are 0; free entries (ages apart) .. are zero": a reason while it is runnable, a filter and a deadline while it waits
+abbrev pub idleRule : State → ℕ → Rule
+idleRule s a =
+    both (imp (eq (at s STATE a) FREE) (both (eq (at s PRIORITY a) 0) (eq (at s HAND a) 0)))
+    (both (imp (differ (at s STATE a) RUNNABLE) (eq (at s REASON a) 0))
+    (imp (differ (at s STATE a) WAITS)
+    (both (both (eq (at s WANT-SENDER a) 0) (eq (at s WANT-CLASS a) 0)) (both (eq (at s WANT-TAG a) 0) (eq (at s DEADLINE a) 0)))))
+
+-- "a waiting actor's deadline is later than the clock and at most 2^62 + 2^41" (0 is no deadline); "filters are legal"
+abbrev pub waitRule : State → ℕ → Rule
+waitRule s a =
+    both (both (le (at s WANT-SENDER a) ANY-SENDER) (le (at s WANT-TAG a) ANY-TAG))
+    (both (both (le (at s WANT-CLASS a) ANY-CLASS) (imp (lt 4 (at s WANT-CLASS a)) (eq (at s WANT-CLASS a) ANY-CLASS)))
+    (imp (differ (at s DEADLINE a) 0) (both (lt (head s CLOCK) (at s DEADLINE a)) (le (at s DEADLINE a) (2 ^ 62 + 2 ^ 41)))))
+
+-- "at most one actor running": the one that the head names
+abbrev pub runRule : State → ℕ → Rule
+runRule s a = eq (boolByte (eqb (at s STATE a) RUNS)) (boolByte (eqb (runner s) (suc a)))
+
+-- ---- a counted list in a column of n words: the first m are below n, and the others are 0
+abbrev pub listRule : ℕ → ℕ → List ℕ → ℕ → Rule
+listRule n m list i = both (imp (lt i m) (lt (getD list i 0) n)) (imp (le m i) (eq (getD list i 0) 0))
+
+-- "each runnable actor once in its own level's queue and no other actor queued": a level's queue is what the queue has of that priority
+abbrev pub queueRule : Caps → State → ℕ → Rule
+queueRule k s i = listRule (k .actors) (head s QUEUED) (s QUEUE) i
+
+abbrev pub onceRule : State → ℕ → Rule
+onceRule s a = eq (occurs a (take (head s QUEUED) (s QUEUE))) (boolByte (eqb (at s STATE a) RUNNABLE))
+
+-- ---- mailbox entries
+-- "each mailbox entry free or in one live actor's mailbox": a mailbox is what the arrivals have of that owner, in their order
+abbrev pub mailRule : Caps → State → ℕ → Rule
+mailRule k s e =
+    both (imp (is (free (s MAIL-FREE) e)) (both (eq (at s MAIL-OWNER e) 0) (eq (at s MAIL-DATA e) 0)))
+    (imp (is (not (free (s MAIL-FREE) e)))
+    (both (both (le 1 (at s MAIL-OWNER e)) (is (alive (s STATE) (at s MAIL-OWNER e - 1))))
+    (both (le 1 (at s MAIL-DATA e)) (le (at s MAIL-DATA e) (k .datas)))))
+
+abbrev pub arrivalRule : Caps → State → ℕ → Rule
+arrivalRule k s i = listRule (k .mails) (head s ARRIVED) (s ARRIVAL) i
+
+abbrev pub arrivedRule : State → ℕ → Rule
+arrivedRule s e = eq (occurs e (take (head s ARRIVED) (s ARRIVAL))) (boolByte (not (free (s MAIL-FREE) e)))
+
+-- a free bit is an entry's: "unused words are 0"
+abbrev pub bitsRule : ℕ → List ℕ → ℕ → Rule
+bitsRule n bits e = imp (le n e) (is (not (free bits e)))
+
+-- "its mailbox holds nothing that its filter matches"
+abbrev pub filterRule : State → ℕ → Rule
+filterRule s e =
+    imp (both (is (not (free (s MAIL-FREE) e))) (eq (at s STATE (at s MAIL-OWNER e - 1)) WAITS))
+    (is (not (awaits s (at s MAIL-OWNER e - 1) (at s MAIL-DATA e - 1))))
+
+-- ---- data entries
+-- "each data entry free, belonging to one queued message, or in one live actor's hand"
+abbrev pub heldRule : State → ℕ → Rule
+heldRule s d =
+    eq (occurs (suc d) (s MAIL-DATA) + occurs (suc d) (s HAND)) (boolByte (not (free (s DATA-FREE) d)))
+
+-- "free entries (ages apart) and bytes past a payload are zero"
+unfoldable pub zeros : List ℕ → ℕ → ℕ → Rule
+zeros bytes from n = each n (λ i. eq (getD bytes (from + i) 0) 0)
+
+abbrev pub emptyRule : State → ℕ → Rule
+emptyRule s d = both (both (eq (at s SENDER d) 0) (eq (at s LENGTH d) 0)) (zeros (s PAYLOAD) (256 * d) 256)
+
+-- "headers are class 0 without bit 27, tag below 134,217,727, or class 3 or 4 with it, tag 0"
+abbrev pub headerRule : ℕ → Rule
+headerRule h =
+    both (imp (eq (classOf h) 0) (both (eq (markOf h) 0) (lt (tagOf h) ANY-TAG)))
+    (imp (differ (classOf h) 0) (both (both (le 3 (classOf h)) (le (classOf h) 4)) (both (eq (markOf h) 1) (eq (tagOf h) 0))))
+
+-- "lengths are 0 to 252, in classes 3 and 4 the record's"
+abbrev pub lengthRule : ℕ → ℕ → Rule
+lengthRule class length =
+    both (le length PAYLOAD-MOST) (both (imp (eq class 3) (eq length 8)) (imp (eq class 4) (eq length 14)))
+
+-- "senders (0 just in class 3) are actor ids of age 1 to their slot's age"
+abbrev pub senderRule : List ℕ → ℕ → ℕ → Rule
+senderRule ages class sender =
+    both (imp (eq sender 0) (eq class 3))
+    (imp (differ sender 0) (both (le 1 (ageOf 64 sender)) (le (ageOf 64 sender) (getD ages (slotOf 64 sender) 0))))
+
+abbrev pub messageRule : State → ℕ → Rule
+messageRule s d =
+    both (both (headerRule (header s d)) (lengthRule (classOf (header s d)) (at s LENGTH d)))
+    (both (senderRule (s AGE) (classOf (header s d)) (at s SENDER d))
+    (zeros (s PAYLOAD) (256 * d + (4 + at s LENGTH d)) (252 - at s LENGTH d)))
+
+abbrev pub dataRule : State → ℕ → Rule
+dataRule s d =
+    both (imp (is (free (s DATA-FREE) d)) (emptyRule s d)) (imp (is (not (free (s DATA-FREE) d))) (messageRule s d))
+
+-- ---- "links join two different live actors", both written one up
+abbrev pub endsRule : List ℕ → ℕ → ℕ → Rule
+endsRule states one two =
+    both (both (le 1 one) (is (alive states (one - 1)))) (both (both (le 1 two) (is (alive states (two - 1)))) (differ one two))
+
+abbrev pub linkRule : State → ℕ → Rule
+linkRule s e =
+    both (imp (eq (at s LINK-ONE e) 0) (eq (at s LINK-TWO e) 0))
+    (imp (differ (at s LINK-ONE e) 0) (endsRule (s STATE) (at s LINK-ONE e) (at s LINK-TWO e)))
+
+-- "no pair twice": no entry before e joins the same two
+unfoldable pub pairRule : State → ℕ → Rule
+pairRule s e =
+    imp (differ (at s LINK-ONE e) 0) (each e (λ d. is (not (joins (s LINK-ONE) (s LINK-TWO) (at s LINK-ONE e) (at s LINK-TWO e) d))))
+
+-- ---- ages of timers and monitors: "ages (0 only if free)"; a word that is not 0 is in use
+abbrev pub ageRule : ℕ → ℕ → Rule
+ageRule word age = both (le age OLDEST) (imp (differ word 0) (le 1 age))
+
+-- "monitors likewise, pairs may repeat"
+abbrev pub monitorRule : State → ℕ → Rule
+monitorRule s i =
+    both (ageRule (at s WATCHER i) (at s MONITOR-AGE i))
+    (both (imp (eq (at s WATCHER i) 0) (eq (at s WATCHED i) 0))
+    (imp (differ (at s WATCHER i) 0) (endsRule (s STATE) (at s WATCHER i) (at s WATCHED i))))
+
+-- "timers have live owners; due times at most 2^62 + 2^32"; "intervals .. in range" (0 is a one-shot's)
+abbrev pub timerRule : State → ℕ → Rule
+timerRule s i =
+    both (ageRule (at s TIMER-OWNER i) (at s TIMER-AGE i))
+    (both (imp (eq (at s TIMER-OWNER i) 0) (both (eq (at s DUE i) 0) (eq (at s INTERVAL i) 0)))
+    (imp (differ (at s TIMER-OWNER i) 0)
+    (both (is (alive (s STATE) (at s TIMER-OWNER i - 1))) (both (le (at s DUE i) (2 ^ 62 + 2 ^ 32)) (le (at s INTERVAL i) LONGEST)))))
+
+-- ---- all of them
+-- what is asked of slot a, and of word a of the queue
+abbrev pub slotRule : Caps → State → ℕ → Rule
+slotRule k s a =
+    both (both (actorRule k s a) (idleRule s a)) (both (waitRule s a) (both (runRule s a) (queueRule k s a)))
+
+-- what is asked of mailbox entry e, and of word e of the arrivals
+abbrev pub boxRule : Caps → State → ℕ → Rule
+boxRule k s e = both (mailRule k s e) (arrivalRule k s e)
+
+-- the rules that read a word where it stands
+unfoldable pub plainRules : Caps → State → Rule
+plainRules k s =
+    both (both (capsRule k s) (both (headRule k s) (each 6 (λ i. spareRule s i))))
+    (both (both (each 256 (λ e. bitsRule (k .mails) (s MAIL-FREE) e)) (each 256 (λ d. bitsRule (k .datas) (s DATA-FREE) d)))
+    (both (both (each (k .actors) (λ a. slotRule k s a)) (each (k .mails) (λ e. boxRule k s e)))
+    (both (both (each (k .datas) (λ d. dataRule s d)) (each (k .links) (λ e. linkRule s e)))
+    (both (each (k .monitors) (λ i. monitorRule s i)) (each (k .timers) (λ i. timerRule s i))))))
+
+-- the rules that count over a whole column, or follow what one names
+unfoldable pub lateRules : Caps → State → Rule
+lateRules k s =
+    both (both (each (k .actors) (λ a. onceRule s a)) (each (k .mails) (λ e. arrivedRule s e)))
+    (both (each (k .datas) (λ d. heldRule s d)) (both (each (k .links) (λ e. pairRule s e)) (each (k .mails) (λ e. filterRule s e))))
+
+unfoldable pub soundAt : Caps → State → Rule
+soundAt k s = both (fitRule k s) (both (plainRules k s) (lateRules k s))
+
+-- the state that two buffers hold, by the capacities that the table's head states
+abbrev pub viewOf : List ℕ → List ℕ → State
+viewOf w p = view (capsOf w) w p
+
+-- "7 is answered exactly when a rule is broken or a buffer is too short"
+abbrev pub soundRule : List ℕ → List ℕ → Rule
+soundRule w p = soundAt (capsOf w) (viewOf w p)
+
+-- what a function inside a host call may rely on: "Only calls inside the library may take soundness as a premise"
+pub record Ready (k : Caps) (w p : List ℕ) : Type 0 where
+  pub room : Room k w p
+  pub sound : Holds (soundAt k (view k w p))
