@@ -1,0 +1,201 @@
+-- In words of the reckoning: after an exit nothing of the ended actor is left, and notices are lost for want of room alone. Assumes nothing.
+use Prim.Native.Nat.{ℕ, zero, suc, _+_, _-_, _%_, _≤_, min}
+use native.Mathlib.Omega.{arith}
+use native.Mathlib.Decide.{ℕ-discrete}
+use mathlib.Core.Path.{_≡_, refl, sym, ap, ap₂, subst, _∙_}
+use mathlib.Core.Logic.{_⊎_, inl, inr, ⊎-elim}
+use mathlib.Core.Bool.{Bool, true, false, not, _&&_, _||_, and-false}
+use mathlib.Core.List.{List, [], _∷_, _++_, map}
+use lib.ListN.{length, take, length-append, length-map}
+use lib.Seq.{length-take-le}
+use lib.Dec.{eqb}
+use borrow.Author.Tests.{eqb-true, eqb-false, ne-eqb, le-ltb}
+use Rattle.ledger.specs.Call.Call.{exit}
+use Rattle.ledger.specs.Ledger.{Ledger, Link, Message, Monitor}
+use Rattle.ledger.specs.Lists.{those, some, bySlot}
+use Rattle.ledger.specs.Reckon.{cleared, departed, done, endLinks, endMonitors, endTimers, entered, gone, linked, notice, notices}
+use Rattle.ledger.specs.Room.{datasLeft, known, mailsLeft}
+use Rattle.pools.specs.Bits.{free}
+use Rattle.pools.proofs.BoolLaws.{split, true-false}
+use Rattle.tables.specs.declared.Caps.{Caps}
+use Rattle.tables.specs.Columns.{DATA-FREE, HAND, MAIL-DATA, MAIL-FREE, STATE, WATCHED, WATCHER}
+use Rattle.tables.specs.State.{State, at}
+use Rattle.rules.specs.Terms.{actorId, alive, runner, runnerId}
+use Rattle.rules.specs.Agrees.{Agrees, arrivals, boxAt, handAt, monitorAt}
+use Rattle.rules.specs.Actions.{hasRoom}
+use Rattle.rules.specs.Calls.{Told, exitRule, farewell}
+use Rattle.rules.specs.Run.{sayEnded}
+use Rattle.rules.proofs.Good.{Good}
+use Rattle.rules.proofs.LedgerLaws.{bits-left, datas-left, mails-left, room-same, running-is, runner-alive, some-map, some-no}
+use Rattle.rules.proofs.TiesAgree.{eye-used, linked-same, up-id}
+use Rattle.rules.proofs.NoticeLaws.{those-none-left}
+use Rattle.rules.proofs.ExitLaws.{link-found}
+use Rattle.rules.proofs.Exit.{monitors-cut}
+use Rattle.rules.proofs.ExitAgrees.{Along, farewell-along, left, linkedTo}
+
+-- ---- none of a list
+module _ {A : Type 0} (p : A → Bool) where
+  -- none passes
+  none-all : (xs : List A) → ((x : A) → p x ≡ false) → some p xs ≡ false
+  unfolding some
+  none-all [] h = refl
+  none-all (x ∷ xs) h = rw (h x) (none-all xs h)
+
+  -- one of two lists
+  some-both : (xs ys : List A) → some p (xs ++ ys) ≡ some p xs || some p ys
+  unfolding some
+  some-both [] ys = refl
+  some-both (x ∷ xs) ys = split (p x) (λ q. rw q) (λ q. rw q (some-both xs ys))
+
+  -- one of those that pass another test
+  some-those : (q : A → Bool) (xs : List A) → some p (those q xs) ≡ some (λ x. q x && p x) xs
+  unfolding some those
+  some-those q [] = refl
+  some-those q (x ∷ xs) = split (q x) (λ r. rw r (ap (λ (b : Bool). p x || b) (some-those q xs))) (λ r. rw r (some-those q xs))
+
+  -- none of those that pass another test, where none passes
+  none-those : (q : A → Bool) (xs : List A) → some p xs ≡ false → some p (those q xs) ≡ false
+  unfolding some those
+  none-those q [] h = refl
+  none-those q (x ∷ xs) h =
+      split (p x) (λ r. true-false true refl (rw r at h))
+      (λ r. let t : some p xs ≡ false = rw r at h in split (q x) (λ y. rw (y, r) (none-those q xs t)) (λ y. rw y (none-those q xs t)))
+
+  -- by ascending slot
+  none-slot : (slot : A → ℕ) (n : ℕ) (xs : List A) → some p xs ≡ false → some p (bySlot slot n xs) ≡ false
+  unfolding bySlot some
+  none-slot slot zero xs h = refl
+  none-slot slot (suc n) xs h = some-both (bySlot slot n xs) (those (λ x. eqb (slot x) n) xs) ∙ rw (none-slot slot n xs h, none-those (λ x. eqb (slot x) n) xs h)
+
+  -- of the first n
+  none-take : (n : ℕ) (xs : List A) → some p xs ≡ false → some p (take n xs) ≡ false
+  unfolding some
+  none-take zero xs h = refl
+  none-take (suc n) [] h = refl
+  none-take (suc n) (x ∷ xs) h = split (p x) (λ r. true-false true refl (rw r at h)) (λ r. rw r (none-take n xs (rw r at h)))
+
+-- ---- nothing of an actor is left
+pub record Nothing (id : ℕ) (l : Ledger) : Type 0 where
+  -- no message is for it, in a mailbox or in a hand
+  pub boxes : some (λ m. eqb (m .to) id) (l .mail .boxes) ≡ false
+  pub hands : some (λ m. eqb (m .to) id) (l .mail .hands) ≡ false
+  -- no timer is its own
+  pub timers : some (λ t. eqb (t .owner) id) (l .time .timers) ≡ false
+  -- it is at no end of a link or a monitor
+  pub links : some (λ p. eqb (p .one) id || eqb (p .two) id) (l .ties .links) ≡ false
+  pub monitors : some (λ m. eqb (m .target) id || eqb (m .watcher) id) (l .ties .monitors) ≡ false
+  -- it is no live actor, and nobody runs
+  pub live : known l id ≡ false
+  pub idle : l .people .running ≡ 0
+
+-- no notice is for the actor that ends, where it is neither linked with itself nor watches itself
+notices-else : (me reason : ℕ) (l : Ledger) → linked l me me ≡ false → some (λ m. eqb (m .target) me && eqb (m .watcher) me) (l .ties .monitors) ≡ false → some (λ m. eqb (m .to) me) (notices l me reason) ≡ false
+unfolding notices
+notices-else me reason l h w =
+    some-both (λ m. eqb (m .to) me) (map (λ a. notice me reason 0 (a .id)) (bySlot (λ a. a .id % 64) 64 (those (λ a. linked l me (a .id)) (l .people .live))))
+    (map (λ m. notice me reason (m .id) (m .watcher)) (bySlot (λ m. m .id % 128) 128 (those (λ m. eqb (m .target) me) (l .ties .monitors))))
+    ∙ ap₂ (λ (x y : Bool). x || y)
+    (some-map (λ m. eqb (m .to) me) (λ a. notice me reason 0 (a .id)) (bySlot (λ a. a .id % 64) 64 (those (λ a. linked l me (a .id)) (l .people .live)))
+    ∙ none-slot (λ a. eqb (a .id) me) (λ a. a .id % 64) 64 (those (λ a. linked l me (a .id)) (l .people .live))
+    (some-those (λ a. eqb (a .id) me) (λ a. linked l me (a .id)) (l .people .live)
+    ∙ none-all (λ a. linked l me (a .id) && eqb (a .id) me) (l .people .live) (λ a. split (eqb (a .id) me) (λ q. rw (q, eqb-true (a .id) me q, h)) (λ q. rw q (and-false (linked l me (a .id)))))))
+    (some-map (λ m. eqb (m .to) me) (λ m. notice me reason (m .id) (m .watcher)) (bySlot (λ m. m .id % 128) 128 (those (λ m. eqb (m .target) me) (l .ties .monitors)))
+    ∙ none-slot (λ m. eqb (m .watcher) me) (λ m. m .id % 128) 128 (those (λ m. eqb (m .target) me) (l .ties .monitors))
+    (some-those (λ m. eqb (m .watcher) me) (λ m. eqb (m .target) me) (l .ties .monitors) ∙ w))
+
+-- THE LAW of the reckoning's exit: nothing of the ended actor is left
+pub departed-nothing : (me reason n : ℕ) (l : Ledger) → linked l me me ≡ false → some (λ m. eqb (m .target) me && eqb (m .watcher) me) (l .ties .monitors) ≡ false → Nothing me (departed me reason n l)
+unfolding departed gone endTimers endMonitors endLinks cleared
+departed-nothing me reason n l h w = record {
+  boxes = some-both (λ m. eqb (m .to) me) (those (λ m. not (eqb (m .to) me)) (l .mail .boxes)) (take n (notices l me reason))
+      ∙ rw (those-none-left (λ m. eqb (m .to) me) (l .mail .boxes), none-take (λ m. eqb (m .to) me) n (notices l me reason) (notices-else me reason l h w));
+  hands = those-none-left (λ m. eqb (m .to) me) (l .mail .hands);
+  timers = those-none-left (λ t. eqb (t .owner) me) (l .time .timers);
+  links = those-none-left (λ p. eqb (p .one) me || eqb (p .two) me) (l .ties .links);
+  monitors = those-none-left (λ m. eqb (m .target) me || eqb (m .watcher) me) (l .ties .monitors);
+  live = those-none-left (λ a. eqb (a .id) me) (l .people .live);
+  idle = refl;
+}
+
+-- ---- in a sound runtime nobody is linked with itself, and nobody watches itself
+module _ (k : Caps) (s : State) (l : Ledger) (g : Good k s) (r : Agrees k l s) (a : ℕ) (there : alive (s STATE) a ≡ true) where
+  -- no link has it at both ends
+  pub unlinked-self : linked l (actorId s a) (actorId s a) ≡ false
+  unlinked-self =
+      linked-same k l s g r a a there there
+      ∙ split (linkedTo k s a a) (λ q. absurd (link-found k s a a g q .3 refl)) (λ q. q)
+
+  -- no monitor does
+  pub unwatched-self : some (λ m. eqb (m .target) (actorId s a) && eqb (m .watcher) (actorId s a)) (l .ties .monitors) ≡ false
+  unwatched-self =
+      rw (r .monitors, some-map (λ m. eqb (m .target) (actorId s a) && eqb (m .watcher) (actorId s a)) (monitorAt s) (r .eyes))
+      (some-no (λ e. eqb (actorId s (at s WATCHED e - 1)) (actorId s a) && eqb (actorId s (at s WATCHER e - 1)) (actorId s a)) (r .eyes) (λ e o.
+      let c = eye-used k l s s g r e o in
+      let h = g .monitors e (c .1) .1 .1 (c .0) in
+      rw (up-id k l s g r (at s WATCHED e) a (h .1 .0 .0) (h .1 .0 .1) there, up-id k l s g r (at s WATCHER e) a (h .0 .0) (h .0 .1) there)
+      (split (eqb (at s WATCHED e) (suc a))
+      (λ p. rw (p, ne-eqb (at s WATCHER e) (suc a) (λ z. h .1 .1 (z ∙ sym (eqb-true (at s WATCHED e) (suc a) p)))))
+      (λ p. rw p))))
+
+-- THE THEOREM: after an exit the reckoning has nothing of the actor that ended
+pub exit-nothing : (reason : ℕ) (k : Caps) (s : State) (l : Ledger) → Good k s → Agrees k l s → eqb (runner s) 0 ≡ false → reason ≤ 65535 →
+    Nothing (l .people .running) (entered (record { call = exit reason; answer = sayEnded (exitRule reason k s .ans) }) l)
+unfolding exitRule entered done
+exit-nothing reason k s l g r q h =
+    let there = runner-alive k s g q in
+    let e = running-is k s g l r q in
+    let a = runner s - 1 in
+    rw (q, le-ltb 65535 reason h)
+    (departed-nothing (l .people .running) reason _ l
+    (subst (λ (i : ℕ). linked l i i ≡ false) (sym e) (unlinked-self k s l g r a there))
+    (subst (λ (i : ℕ). some (λ m. eqb (m .target) i && eqb (m .watcher) i) (l .ties .monitors) ≡ false) (sym e) (unwatched-self k s l g r a there)))
+
+-- ---- how many notices are sent
+module _ (k : Caps) (s : State) (l : Ledger) (g : Good k s) (r : Agrees k l s) where
+  -- the messages are no more than the pools hold
+  boxes-fit : length (l .mail .boxes) ≤ l .sizes .mails
+  boxes-fit = rw (r .sizes, r .boxes, length-map (arrivals s) (boxAt s)) (omega (arith, bits-left (k .mails) (free (s MAIL-FREE)) (arrivals s) (r .allBoxes)))
+
+  -- with those in hands, than the data entries
+  datas-fit : length (l .mail .boxes) + length (l .mail .hands) ≤ l .sizes .datas
+  datas-fit =
+      rw (r .sizes, r .boxes, r .hands, length-map (arrivals s) (boxAt s), length-map (r .palms) (handAt s))
+      (omega (
+        arith,
+        bits-left (k .datas) (free (s DATA-FREE)) (map (λ e. at s MAIL-DATA e - 1) (arrivals s) ++ map (λ a. at s HAND a - 1) (r .palms)) (r .allDatas),
+        length-append (map (λ e. at s MAIL-DATA e - 1) (arrivals s)) (map (λ a. at s HAND a - 1) (r .palms)),
+        length-map (arrivals s) (λ e. at s MAIL-DATA e - 1),
+        length-map (r .palms) (λ a. at s HAND a - 1),
+      ))
+
+  -- where there is no room one of the pools is full
+  none-left : hasRoom k s ≡ false → (mailsLeft l ≡ 0) ⊎ (datasLeft l ≡ 0)
+  none-left q =
+      let m = room-same (free (s MAIL-FREE)) (k .mails) (mailsLeft l) (mails-left k s g l r) in
+      let d = room-same (free (s DATA-FREE)) (k .datas) (datasLeft l) (datas-left k s g l r) in
+      split (eqb (mailsLeft l) 0) (λ y. inl (eqb-true (mailsLeft l) 0 y))
+      (λ y. split (eqb (datasLeft l) 0) (λ z. inr (eqb-true (datasLeft l) 0 z)) (λ z. true-false true refl (rw (m, y, d, z) at q)))
+
+-- as many as there are, and as both message pools have room for
+most : (k : Caps) (l : Ledger) (ns : List Message) (p : Link → Bool) (q : Monitor → Bool) (t : Told) → Good k (t .state) → Along k l ns p q t → t .sent ≡ min (length ns) (min (mailsLeft l) (datasLeft l))
+most k l ns p q t g r =
+    let c = left l (take (t .sent) ns) p q (r .worn) in
+    let n : length (take (t .sent) ns) ≡ t .sent = length-take-le (t .sent) ns (omega (arith, r .count)) in
+    let b : length (l .mail .boxes ++ take (t .sent) ns) ≡ length (l .mail .boxes) + t .sent = length-append (l .mail .boxes) (take (t .sent) ns) ∙ ap (λ (x : ℕ). length (l .mail .boxes) + x) n in
+    let x = boxes-fit k (t .state) c g (r .agrees) in
+    let y = datas-fit k (t .state) c g (r .agrees) in
+    elim (ℕ-discrete (t .lost) 0) [
+      | yes z ↦ omega (arith, r .count, x, y, b)
+      | no z ↦ ⊎-elim (λ f. omega (arith, r .count, x, y, b, f)) (λ f. omega (arith, r .count, x, y, b, f)) (none-left k (t .state) c g (r .agrees) (r .full z))
+    ]
+
+-- "A notice for which either message pool is empty is lost", and no other: once the actor's hand and mailbox are freed
+pub exit-sent : (reason : ℕ) (k : Caps) (s : State) (l : Ledger) → Good k s → Agrees k l s → eqb (runner s) 0 ≡ false → reason ≤ 65535 →
+    exitRule reason k s .ans .sent ≡ min (length (notices l (l .people .running) reason)) (min (mailsLeft (cleared (l .people .running) l)) (datasLeft (cleared (l .people .running) l)))
+unfolding exitRule
+exit-sent reason k s l g r q h =
+    let a = runner s - 1 in
+    let run : runner s ≡ suc a = omega (arith, eqb-false (runner s) 0 q) in
+    let z = farewell-along k s l g r a reason run in
+    let e = most k (cleared (runnerId s) l) (notices l (runnerId s) reason) _ _ (farewell k a (runnerId s) reason s) (monitors-cut k s g a reason run .going .good) z in
+    rw (q, le-ltb 65535 reason h) (e ∙ ap (λ (i : ℕ). min (length (notices l i reason)) (min (mailsLeft (cleared i l)) (datasLeft (cleared i l)))) (sym (running-is k s g l r q)))

@@ -1,0 +1,258 @@
+-- Exit keeps a sound runtime sound, and the actor that ended owns nothing, and nothing is aimed at it. Assumes nothing.
+use Prim.Native.Nat.{ℕ, suc, _-_, _≤_, _<_}
+use native.Mathlib.Omega.{arith}
+use mathlib.Core.Path.{_≡_, refl, sym, ap, _∙_}
+use mathlib.Core.Logic.{_⊎_, inl, inr, ⊎-elim}
+use mathlib.Core.Bool.{true, false, _&&_, or-true}
+use mathlib.Core.List.{List}
+use mir.Val.{boolByte}
+use native.Mathlib.Decide.{decLt}
+use lib.ListN.{getD, set, List·getD-eq-default}
+use lib.Dec.{eqb, ltb, lit<}
+use borrow.Author.Tests.{eqb-true, eqb-false, eq-eqb, ne-eqb, lt-ltb, le-ltb}
+use Rattle.pools.proofs.BoolLaws.{split, true-false, flag-eq}
+use Rattle.pools.proofs.SlotLaws.{slot-of-id}
+use Rattle.tables.specs.declared.Caps.{Caps}
+use Rattle.tables.specs.Columns.{AGE, ARRIVED, HAND, LINK-ONE, LINK-TWO, MAIL-OWNER, PAYLOAD, PRIORITY, RUNNING, STATE, TIMER-OWNER, WATCHED, WATCHER}
+use Rattle.tables.specs.State.{State, at, head, poke, with-col}
+use Rattle.tables.specs.Action.{freeBit}
+use Rattle.tables.proofs.ViewLaws.{Sized}
+use Rattle.tables.proofs.ActionLaws.{sized-poke}
+use Rattle.rules.specs.Rule.{Holds}
+use Rattle.rules.specs.Terms.{FREE, RUNS, WAITS, actorId, alive, isActor, joins, runner, runnerId}
+use Rattle.rules.specs.Sound.{actorRule, endsRule, idleRule, onceRule, pairRule}
+use Rattle.rules.specs.Actions.{letGo}
+use Rattle.rules.specs.Calls.{cutLinks, dropAll, dropMonitors, dropTimers, exitRule, farewell, leave, told}
+use Rattle.rules.proofs.Good.{Good}
+use Rattle.rules.proofs.ColumnLaws.{alive-below, alive-other, each-set, other, set-zero, spare-same}
+use Rattle.rules.proofs.Ids.{id-free}
+use Rattle.rules.proofs.TieLaws.{below, used-inside}
+use Rattle.rules.proofs.Ties.{dropMonitors-ends, dropMonitors-keeps, dropMonitors-none, dropTimers-ends, dropTimers-keeps, dropTimers-none}
+use Rattle.rules.proofs.Messages.{dropAll-else, dropAll-empties, dropAll-keeps, letGo-else, letGo-empty, letGo-keeps, unfill-is, unfilled, wipe}
+use Rattle.rules.proofs.ExitLaws.{Cut, Going, Unseen, cut-none, cutLinks-cuts, cutMonitors-cuts, unseen-none}
+
+-- ---- slot a owns nothing, and nothing is aimed at it
+pub record Bare (k : Caps) (s : State) (a : ℕ) : Type 0 where
+  pub mail : (e : ℕ) → at s MAIL-OWNER e ≡ suc a → ⊥
+  pub hand : at s HAND a ≡ 0
+  pub one : (e : ℕ) → at s LINK-ONE e ≡ suc a → ⊥
+  pub two : (e : ℕ) → at s LINK-TWO e ≡ suc a → ⊥
+  pub watcher : (i : ℕ) → at s WATCHER i ≡ suc a → ⊥
+  pub watched : (i : ℕ) → at s WATCHED i ≡ suc a → ⊥
+  pub timer : (i : ℕ) → at s TIMER-OWNER i ≡ suc a → ⊥
+
+-- ---- the slot is given back
+-- who is not slot a lives on
+stays : (st : List ℕ) (a x : ℕ) → 1 ≤ x → (x ≡ suc a → ⊥) → alive st (x - 1) ≡ true → alive (set st a 0) (x - 1) ≡ true
+stays st a x l n h = alive-other st a 0 (x - 1) (λ z. n (omega arith)) ∙ h
+
+-- both ends of a link or a monitor do
+ends-stay : (st : List ℕ) (a one two : ℕ) → (one ≡ suc a → ⊥) → (two ≡ suc a → ⊥) → Holds (endsRule st one two) → Holds (endsRule (set st a 0) one two)
+ends-stay st a one two n m h = ((h .0 .0, stays st a one (h .0 .0) n (h .0 .1)), ((h .1 .0 .0, stays st a two (h .1 .0 .0) m (h .1 .0 .1)), h .1 .1))
+
+-- THE LAW of a slot that is given back: sound as before, once it owns nothing and nothing is aimed at it
+pub leave-keeps : (k : Caps) (s : State) (a : ℕ) → Good k s → runner s ≡ suc a → Bare k s a → Good k (leave s a)
+unfolding leave poke with-col pairRule
+leave-keeps k s a g run bare =
+    let l : a < k .actors = omega (arith, g .head .0 .1) in
+    let u : at s STATE a ≡ RUNS = flag-eq (at s STATE a) RUNS (g .runs a l ∙ rw (eq-eqb (runner s) (suc a) run)) in
+    let is : getD (set (s STATE) a 0) a 0 ≡ 0 = set-zero (s STATE) a in
+    let level : getD (set (s PRIORITY) a 0) a 0 ≡ 0 = set-zero (s PRIORITY) a in
+    let z : getD (set (s RUNNING) 0 0) 0 0 ≡ 0 = set-zero (s RUNNING) 0 in
+    record {
+      range = g .range;
+      sized = sized-poke k _ PRIORITY a 0 (sized-poke k _ STATE a 0 (sized-poke k s RUNNING 0 0 (g .sized)));
+      caps = g .caps;
+      head = rw z ((g .head .0 .0, omega arith), g .head .1);
+      spare = spare-same s (leave s a) (refl, refl, refl, refl, refl, refl) (g .spare);
+      mailBits = g .mailBits;
+      dataBits = g .dataBits;
+      actors = λ b h. each-set (λ b. Holds (actorRule k (leave s a) b)) a b
+          (let c = g .actors a l in rw (is, level) ((omega arith, (omega arith, c .0 .1 .1)), ((c .1 .0 .0, λ e. refl), c .1 .1)))
+          (λ q. rw (other (s STATE) a 0 b q, other (s PRIORITY) a 0 b q) (g .actors b h));
+      idle = λ b h. each-set (λ b. Holds (idleRule (leave s a) b)) a b
+          (rw (is, level) (λ e. (refl, bare .hand), (λ e. g .idle a l .1 .0 (λ r. omega (arith, u)), λ e. g .idle a l .1 .1 (λ r. omega (arith, u)))))
+          (λ q. rw (other (s STATE) a 0 b q, other (s PRIORITY) a 0 b q) (g .idle b h));
+      waits = g .waits;
+      runs = λ b h. rw z (each-set (λ b. b < k .actors → boolByte (eqb (getD (set (s STATE) a 0) b 0) RUNS) ≡ boolByte (eqb 0 (suc b))) a b
+          (λ h. rw (is, ne-eqb 0 (suc a) (λ e. omega arith)))
+          (λ q h. rw (other (s STATE) a 0 b q, ne-eqb 0 (suc b) (λ e. omega arith)) (rw (ne-eqb (runner s) (suc b) (λ e. eqb-false b a q (omega (arith, run)))) at (g .runs b h))) h);
+      queue = g .queue;
+      once = λ b h. each-set (λ b. b < k .actors → Holds (onceRule (leave s a) b)) a b
+          (λ h. rw is (rw u at (g .once a h)))
+          (λ q h. rw (other (s STATE) a 0 b q) (g .once b h)) h;
+      mails = λ e h. (g .mails e h .0, λ p. let c = g .mails e h .1 p in ((c .0 .0, stays (s STATE) a (at s MAIL-OWNER e) (c .0 .0) (bare .mail e) (c .0 .1)), c .1));
+      arrivals = g .arrivals;
+      arrived = g .arrived;
+      filters = λ e h p. split (eqb (at s MAIL-OWNER e - 1) a)
+          (λ q. absurd (let y : getD (set (s STATE) a 0) a 0 ≡ WAITS = rw (eqb-true (at s MAIL-OWNER e - 1) a q) at (p .1) in omega (arith, is)))
+          (λ q. g .filters e h (p .0, rw (other (s STATE) a 0 (at s MAIL-OWNER e - 1) q) at (p .1)));
+      datas = g .datas;
+      held = g .held;
+      links = λ e h. (g .links e h .0, λ p. ends-stay (s STATE) a (at s LINK-ONE e) (at s LINK-TWO e) (bare .one e) (bare .two e) (g .links e h .1 p));
+      pairs = g .pairs;
+      monitors = λ i h. (g .monitors i h .0, (g .monitors i h .1 .0, λ p. ends-stay (s STATE) a (at s WATCHER i) (at s WATCHED i) (bare .watcher i) (bare .watched i) (g .monitors i h .1 .1 p)));
+      timers = λ i h. (g .timers i h .0, (g .timers i h .1 .0, λ p. let c = g .timers i h .1 .1 p in (stays (s STATE) a (at s TIMER-OWNER i) (omega (arith, p)) (bare .timer i) (c .0), c .1)));
+    }
+
+-- ---- hand and mailbox
+-- the state without the hand and the mailbox of slot a
+abbrev pub emptied : State → ℕ → State
+emptied s a = dropAll (head s ARRIVED) (letGo s a) a
+
+-- a data entry that is freed leaves the number of arrivals
+unfilled-arrived : (s : State) (d a : ℕ) (p : List ℕ) → poke (unfilled s d p) HAND a 0 ARRIVED ≡ s ARRIVED
+unfolding poke with-col freeBit
+unfilled-arrived s d a p = refl
+
+-- so does a hand that lets go
+pub letGo-arrived : (s : State) (a : ℕ) → letGo s a ARRIVED ≡ s ARRIVED
+unfolding letGo
+letGo-arrived s a =
+    split (eqb (at s HAND a) 0) (λ q. rw q)
+    (λ q. rw (q, unfill-is s (at s HAND a - 1)) (unfilled-arrived s (at s HAND a - 1) a (wipe (s PAYLOAD) (at s HAND a - 1))))
+
+module _ (k : Caps) (s : State) (g : Good k s) (a : ℕ) (run : runner s ≡ suc a) where
+  -- the slot of the running actor is one of the slots
+  slot : a < k .actors
+  slot = omega (arith, g .head .0 .1)
+
+  -- the actor runs on, with nothing in hand and no mail
+  pub emptied-going : Going k a (actorId s a) (emptied s a)
+  emptied-going =
+      let m = head s ARRIVED in
+      let h = letGo-keeps k s a g slot in
+      let e : at (letGo s a) ARRIVED 0 ≡ m = ap (λ (c : List ℕ). getD c 0 0) (letGo-arrived s a) in
+      record {
+        good = dropAll-keeps m k (letGo s a) a h;
+        runs = rw (dropAll-else m (letGo s a) a RUNNING (refl, refl, refl, refl, refl, refl, refl, refl, refl), letGo-else s a RUNNING (refl, refl, refl, refl, refl, refl, refl, refl, refl) refl) run;
+        id = rw (dropAll-else m (letGo s a) a AGE (refl, refl, refl, refl, refl, refl, refl, refl, refl), letGo-else s a AGE (refl, refl, refl, refl, refl, refl, refl, refl, refl) refl) refl;
+        mail = rw e at (dropAll-empties k (letGo s a) a h);
+        hand = rw (dropAll-else m (letGo s a) a HAND (refl, refl, refl, refl, refl, refl, refl, refl, refl)) (letGo-empty k s a g slot);
+      }
+
+-- ---- nothing is left
+-- once the links with every slot are cut no link has slot a as an end
+unlinked : (k : Caps) (s u : State) (a me : ℕ) → Cut k a me (k .actors) s u → (e : ℕ) → (at u LINK-ONE e ≡ suc a) ⊎ (at u LINK-TWO e ≡ suc a) → ⊥
+unfolding joins
+unlinked k s u a me w e o =
+    let g = w .going .good in
+    let n : at u LINK-ONE e ≡ 0 → ⊥ = λ z. ⊎-elim (λ q. omega arith) (λ q. omega (arith, q, two z)) o in
+    let l = in-range n in
+    let h = g .links e l .1 n in
+    ⊎-elim
+    (λ q. never (at u LINK-TWO e - 1) l (h .1 .0 .1) (inl (q, omega (arith, h .1 .0 .0))))
+    (λ q. never (at u LINK-ONE e - 1) l (h .0 .1) (inr (omega (arith, h .0 .0), q)))
+    o
+  where
+    in-range : (at u LINK-ONE e ≡ 0 → ⊥) → e < k .links
+    in-range n = omega (arith, used-inside (u LINK-ONE) e n, w .going .good .sized .words 33 (lit< tt))
+
+    two : at u LINK-ONE e ≡ 0 → at u LINK-TWO e ≡ 0
+    two z = elim (decLt e (k .links)) [ yes l ↦ w .going .good .links e l .0 z | no l ↦ List·getD-eq-default (u LINK-TWO) 0 {n = e} (omega (arith, w .going .good .sized .words 34 (lit< tt))) ]
+
+    never : (b : ℕ) → e < k .links → alive (u STATE) b ≡ true → ((at u LINK-ONE e ≡ suc a) × (at u LINK-TWO e ≡ suc b)) ⊎ ((at u LINK-ONE e ≡ suc b) × (at u LINK-TWO e ≡ suc a)) → ⊥
+    never b l there p =
+        let m : b < k .actors = omega (arith, alive-below (u STATE) b there, w .going .good .sized .words 18 (lit< tt)) in
+        let f : joins (u LINK-ONE) (u LINK-TWO) (suc a) (suc b) e ≡ false = w .joined b e l ∙ rw (lt-ltb b (k .actors) m) in
+        true-false (joins (u LINK-ONE) (u LINK-TWO) (suc a) (suc b) e)
+        (⊎-elim (λ q. rw (eq-eqb (at u LINK-ONE e) (suc a) (q .0), eq-eqb (at u LINK-TWO e) (suc b) (q .1)))
+        (λ q. rw (eq-eqb (at u LINK-ONE e) (suc b) (q .0), eq-eqb (at u LINK-TWO e) (suc a) (q .1)) (or-true (eqb (at u LINK-ONE e) (suc a) && eqb (at u LINK-TWO e) (suc b)))) p)
+        f
+
+-- once the monitors on slot a are cut none is on it
+unwatched : (k : Caps) (s u : State) (a me : ℕ) → Sized k s → Unseen k a me (k .monitors) s u → (i : ℕ) → at u WATCHED i ≡ suc a → ⊥
+unwatched k s u a me z w i q =
+    let h = w .watched i in
+    split (eqb (at s WATCHED i) (suc a))
+    (λ r. let n : at s WATCHED i ≡ 0 → ⊥ = λ y. omega (arith, eqb-true (at s WATCHED i) (suc a) r) in
+    let l : i < k .monitors = omega (arith, used-inside (s WATCHED) i n, z .words 36 (lit< tt)) in
+    let y : at u WATCHED i ≡ 0 = rw (lt-ltb i (k .monitors) l, r) at h in
+    omega arith)
+    (λ r. split (ltb i (k .monitors))
+    (λ p. let y : at u WATCHED i ≡ at s WATCHED i = rw (p, r) at h in eqb-false (at s WATCHED i) (suc a) r (sym y ∙ q))
+    (λ p. let y : at u WATCHED i ≡ at s WATCHED i = rw p at h in eqb-false (at s WATCHED i) (suc a) r (sym y ∙ q)))
+
+-- the actor's own monitors and timers end
+abbrev pub dropped : Caps → ℕ → State → State
+dropped k a s = dropTimers a (k .timers) (dropMonitors a (k .monitors) s)
+
+module _ (k : Caps) (s : State) (g : Good k s) (a reason : ℕ) (run : runner s ≡ suc a) where
+  -- the links with every slot are cut
+  pub links-cut : Cut k a (actorId s a) (k .actors) (emptied s a) (cutLinks k a (actorId s a) reason (k .actors) (told 0 0 (emptied s a)) .state)
+  links-cut = cutLinks-cuts k (emptied s a) (told 0 0 (emptied s a)) a (actorId s a) reason (k .actors) (cut-none k (emptied s a) a (actorId s a) (emptied-going k s g a run))
+
+  -- and the monitors on it
+  pub monitors-cut : Unseen k a (actorId s a) (k .monitors) (cutLinks k a (actorId s a) reason (k .actors) (told 0 0 (emptied s a)) .state) (farewell k a (actorId s a) reason s .state)
+  unfolding farewell
+  monitors-cut =
+      let t = cutLinks k a (actorId s a) reason (k .actors) (told 0 0 (emptied s a)) in
+      cutMonitors-cuts k (t .state) t a (actorId s a) reason (k .monitors) (omega arith) (unseen-none k (t .state) a (actorId s a) (links-cut .going))
+
+  -- the actor owns nothing, and nothing is aimed at it
+  pub dropped-bare : Bare k (dropped k a (farewell k a (actorId s a) reason s .state)) a
+  dropped-bare =
+      let v = cutLinks k a (actorId s a) reason (k .actors) (told 0 0 (emptied s a)) .state in
+      let u = farewell k a (actorId s a) reason s .state in
+      let m = dropMonitors a (k .monitors) u in
+      let c = links-cut in
+      let w = monitors-cut in
+      let gu = w .going .good in
+      let x = dropMonitors-ends k a u (gu .sized) in
+      let gm = dropMonitors-keeps k a u gu in
+      let y = dropTimers-ends k a m (gm .sized) in
+      let gt = dropTimers-keeps k a m gm in
+      let loose = unlinked k (emptied s a) v a (actorId s a) c in
+      record {
+        mail = rw (y .beside 28 refl, x .beside 28 refl) (w .going .mail);
+        hand = rw (y .beside 22 refl, x .beside 22 refl) (w .going .hand);
+        one = rw (y .beside 33 refl, x .beside 33 refl, w .beside 33 refl) (λ e q. loose e (inl q));
+        two = rw (y .beside 34 refl, x .beside 34 refl, w .beside 34 refl) (λ e q. loose e (inr q));
+        watcher = rw (y .beside 35 refl) (λ i q. dropMonitors-none k a u (gu .sized) i (omega (arith, used-inside (m WATCHER) i (λ z. omega arith), gm .sized .words 35 (lit< tt))) q);
+        watched = rw (y .beside 36 refl) (λ i q. unwatched k v u a (actorId s a) (c .going .good .sized) w i
+            (split (below (u WATCHER) (suc a) (k .monitors) i) (λ b. absurd (let z : at m WATCHED i ≡ 0 = rw b at (x .watched i) in omega arith)) (λ b. sym (rw b at (x .watched i)) ∙ q)));
+        timer = λ i q. dropTimers-none k a m (gm .sized) i (omega (arith, used-inside (dropped k a u TIMER-OWNER) i (λ z. omega arith), gt .sized .words 38 (lit< tt))) q;
+      }
+
+  -- it still runs, in a sound state
+  pub dropped-good : Good k (dropped k a (farewell k a (actorId s a) reason s .state))
+  dropped-good = dropTimers-keeps k a _ (dropMonitors-keeps k a _ (monitors-cut .going .good))
+
+  -- the head still names it
+  pub dropped-runs : runner (dropped k a (farewell k a (actorId s a) reason s .state)) ≡ suc a
+  dropped-runs =
+      let u = farewell k a (actorId s a) reason s .state in
+      let gu = monitors-cut .going .good in
+      rw (dropTimers-ends k a (dropMonitors a (k .monitors) u) (dropMonitors-keeps k a u gu .sized) .beside 7 refl, dropMonitors-ends k a u (gu .sized) .beside 7 refl) (monitors-cut .going .runs)
+
+-- THE THEOREM of exit
+pub exit-keeps : (reason : ℕ) (k : Caps) (s : State) → Good k s → Good k (exitRule reason k s .state)
+unfolding exitRule
+exit-keeps reason k s g =
+    let a = runner s - 1 in
+    split (eqb (runner s) 0) (λ q. rw q g)
+    (λ q. split (ltb 65535 reason) (λ r. rw (q, r) g)
+    (λ r. let run : runner s ≡ suc a = omega (arith, eqb-false (runner s) 0 q) in
+    rw (q, r) (leave-keeps k (dropped k a (farewell k a (actorId s a) reason s .state)) a (dropped-good k s g a reason run) (dropped-runs k s g a reason run) (dropped-bare k s g a reason run))))
+
+-- ---- after an exit
+-- the slot is free, and as bare as before
+leave-bare : (k : Caps) (s : State) (a : ℕ) → Bare k s a → Bare k (leave s a) a × (at (leave s a) STATE a ≡ FREE)
+unfolding leave poke with-col
+leave-bare k s a b = (
+  record { mail = b .mail; hand = b .hand; one = b .one; two = b .two; watcher = b .watcher; watched = b .watched; timer = b .timer },
+  set-zero (s STATE) a,
+)
+
+-- "Nothing of an ended actor is left": it owns nothing, nothing is aimed at it, its slot is free and its id is nobody's
+pub exit-leaves-nothing : (reason : ℕ) (k : Caps) (s : State) → Good k s → eqb (runner s) 0 ≡ false → reason ≤ 65535 →
+    Bare k (exitRule reason k s .state) (runner s - 1) × (at (exitRule reason k s .state) STATE (runner s - 1) ≡ FREE) × (isActor (exitRule reason k s .state) (runnerId s) ≡ false)
+unfolding exitRule
+exit-leaves-nothing reason k s g q h =
+    let a = runner s - 1 in
+    let run : runner s ≡ suc a = omega (arith, eqb-false (runner s) 0 q) in
+    let r : ltb 65535 reason ≡ false = le-ltb 65535 reason h in
+    let u = dropped k a (farewell k a (actorId s a) reason s .state) in
+    let b = leave-bare k u a (dropped-bare k s g a reason run) in
+    let l : a < 64 = omega (arith, g .head .0 .1, g .range .fewActors) in
+    rw (q, r) (b .0, b .1, id-free (leave u a) (actorId s a) (ap (λ (i : ℕ). at (leave u a) STATE i) (slot-of-id 64 (at s AGE a) a l) ∙ b .1))

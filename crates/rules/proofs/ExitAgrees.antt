@@ -1,0 +1,611 @@
+-- Exit, and the reckoning: what it says is there after an exit is what the tables hold. Assumes nothing.
+use Prim.Native.Nat.{ℕ, zero, suc, _+_, _-_, _%_, _≤_, _<_}
+use native.Mathlib.Omega.{arith}
+use native.Mathlib.Decide.{ℕ-discrete}
+use mathlib.Core.Path.{_≡_, refl, sym, ap, ap₂, subst, _∙_}
+use mathlib.Core.Bool.{Bool, true, false, cond, not, _&&_, _||_, and-false}
+use mathlib.Core.List.{List, [], _∷_, _++_, map, map-map, append-assoc, append-nil}
+use lib.ListN.{length, getD, set, take, length-append, List·getD-eq-default}
+use lib.Seq.{take-append-le}
+use lib.Dec.{eqb, ltb, lit<}
+use borrow.Author.Tests.{eqb-true, eqb-false, eq-eqb, ne-eqb, ltb-false, le-ltb, not-true}
+use Rattle.ledger.specs.Call.Call.{exit}
+use Rattle.ledger.specs.Ledger.{Actor, Ledger, Link, Message, Monitor, mail, ties, withMail, withTies}
+use Rattle.ledger.specs.Lists.{those, bySlot}
+use Rattle.ledger.specs.Reckon
+use Rattle.ledger.specs.Reckon.{cleared, departed, done, endLinks, endMonitors, endTimers, entered, gone, linked, message, notice, notices, sent, wornBy}
+use Rattle.pools.specs.Pool.{occurs, Exact}
+use Rattle.pools.specs.Lists.{keep}
+use Rattle.pools.specs.Slot.{idOf, unused}
+use Rattle.pools.proofs.BoolLaws.{split, true-false, flag-eq}
+use Rattle.pools.proofs.PoolLaws.{lowest-first, lowest-same}
+use Rattle.pools.proofs.ListLaws.{keep-same-on}
+use Rattle.pools.proofs.ExactLaws.{exact-used}
+use Rattle.pools.proofs.SlotLaws.{slot-of-id}
+use Rattle.records.specs.Bytes
+use Rattle.records.specs.Header.{classOf, packed, tagOf}
+use Rattle.records.specs.Records.{exitBytes}
+use Rattle.tables.specs.declared.Caps.{Caps}
+use Rattle.tables.specs.Columns.{AGE, LINK-ONE, LINK-TWO, MONITOR-AGE, PRIORITY, RUNNING, STATE, WATCHED, WATCHER}
+use Rattle.tables.specs.State.{State, at, head, poke, with-col}
+use Rattle.rules.specs.Terms.{RUNS, actorId, alive, joins, monitorId, runner, runnerId}
+use Rattle.rules.specs.Agrees.{Agrees, actorAt, isWorn, linkAt, monitorAt}
+use Rattle.rules.specs.Actions.{hasRoom, letGo, post}
+use Rattle.rules.specs.Calls.{Told, cutLink, cutLinks, cutMonitor, cutMonitors, dropMonitors, dropTimers, exitRule, farewell, leave, linkOf, tell, tie, told, unwatch}
+use Rattle.rules.specs.Run.{sayEnded}
+use Rattle.rules.proofs.Good.{Good}
+use Rattle.rules.proofs.ColumnLaws.{alive-of, other, set-zero}
+use Rattle.rules.proofs.LedgerLaws.{alive-slot, id-eqb, map-same-on, running-is, slot-map, those-map}
+use Rattle.rules.proofs.TieLaws
+use Rattle.rules.proofs.TieLaws.{below, ends, keep-in, set-cond, used-inside, worn-ends}
+use Rattle.rules.proofs.Ties.{dropMonitors-ends, dropMonitors-keeps, dropTimers-ends, dropTimers-keeps, tie-beside, unwatch-ends}
+use Rattle.rules.proofs.TiesAgree.{bond-joins, bond-used, dropMonitors-agrees, dropTimers-agrees, eye-used, linked-once, linked-same, untie-agrees, unwatch-agrees, up-id}
+use Rattle.rules.proofs.Messages.{Fine, letGo-else, letGo-keeps}
+use Rattle.rules.proofs.MessagesAgree.{dropAll-agrees, handless, letGo-agrees-at, post-agrees}
+use Rattle.rules.proofs.NoticeLaws.{keep-once, map-rows, rows, rows-no, rows-past, rows-same, rows-yes, slot-rows, those-all, those-then, upto, upto-less, upto-more, upto-no, upto-yes}
+use Rattle.rules.proofs.ExitLaws.{Cut, Going, Unseen, cut-none, cutLink-no, cutLink-yes, cutLinks-cuts, cutMonitor-no, cutMonitor-yes, cutMonitors-cuts, exit-fine, going-alive, link-found, tell-lost, tell-sent, unseen-next, unseen-none, unseen-one, untied, watcher-there}
+use Rattle.rules.proofs.Exit.{dropped, emptied, emptied-going, letGo-arrived, links-cut, monitors-cut}
+
+-- ---- the reckoning in the midst of an exit
+-- it has more messages, and has lost the links and the monitors that pass; worn slots of monitors may be listed in another order
+abbrev pub left : Ledger → List Message → (Link → Bool) → (Monitor → Bool) → List ℕ → Ledger
+left l ms p q worn =
+    withTies (withMail l (mail (l .mail .boxes ++ ms) (l .mail .hands))) (ties (those (λ x. not (p x)) (l .ties .links)) (those (λ m. not (q m)) (l .ties .monitors)) worn)
+
+-- the tables hold what it says, where the first of the notices were sent: all of them, or as many as there was room for
+pub record Along (k : Caps) (l : Ledger) (ns : List Message) (p : Link → Bool) (q : Monitor → Bool) (t : Told) : Type 0 where
+  pub worn : List ℕ
+  pub agrees : Agrees k (left l (take (t .sent) ns) p q worn) (t .state)
+  pub count : t .sent + t .lost ≡ length ns
+  pub full : (t .lost ≡ 0 → ⊥) → hasRoom k (t .state) ≡ false
+
+-- an exit notice is the reckoning's
+notice-is : (me reason monitor to : ℕ) → message to me (classOf (packed 4 1 0)) (tagOf (packed 4 1 0)) (exitBytes me reason monitor) ≡ notice me reason monitor to
+unfolding exitBytes Bytes.le
+notice-is me reason monitor to = refl
+
+-- one more of a list of which all were sent
+take-more : (b ns : List Message) (m : Message) (n : ℕ) → n ≡ length ns → (b ++ take n ns) ++ (m ∷ []) ≡ b ++ take (n + 1) (ns ++ (m ∷ []))
+take-more b ns m n e =
+    let v : take n ns ≡ ns = take-all n ns (omega arith) in
+    let w : take (n + 1) (ns ++ (m ∷ [])) ≡ ns ++ (m ∷ []) = take-all (n + 1) (ns ++ (m ∷ [])) (omega (arith, length-append ns (m ∷ []))) in
+    rw (v, w) (append-assoc b ns (m ∷ []))
+  where
+    take-all : (n : ℕ) (l : List Message) → length l ≤ n → take n l ≡ l
+    take-all zero [] h = refl
+    take-all zero (x ∷ l) h = absurd (omega arith)
+    take-all (suc n) [] h = refl
+    take-all (suc n) (x ∷ l) h = ap (λ (r : List Message). x ∷ r) (take-all n l (omega arith))
+
+-- ---- a notice
+module _ (k : Caps) (l : Ledger) (ns : List Message) (p : Link → Bool) (q : Monitor → Bool) (t : Told) (a b me reason monitor : ℕ) (w : Going k a me (t .state)) (there : alive (t .state STATE) b ≡ true) (r : Along k l ns p q t) where
+  -- it is sent
+  told-sent : hasRoom k (t .state) ≡ true →
+      Along k l (ns ++ (notice me reason monitor (actorId (t .state) b) ∷ [])) p q (told (t .sent + 1) (t .lost) (post k (t .state) b me (packed 4 1 0) (exitBytes me reason monitor)))
+  told-sent y =
+      let s = t .state in
+      let m = notice me reason monitor (actorId s b) in
+      let f : Fine (s AGE) me (packed 4 1 0) (exitBytes me reason monitor) = subst (λ (i : ℕ). Fine (s AGE) i (packed 4 1 0) (exitBytes i reason monitor)) (w .id) (exit-fine k s a reason monitor (w .good) (going-alive w)) in
+      let z : t .lost ≡ 0 = elim (ℕ-discrete (t .lost) 0) [ yes z ↦ z | no z ↦ true-false (hasRoom k s) y (r .full z) ] in
+      let n : t .sent ≡ length ns = omega (arith, r .count) in
+      record {
+        worn = r .worn;
+        agrees = subst (λ (bs : List Message). Agrees k (withMail (left l [] p q (r .worn)) (mail bs (l .mail .hands))) (post k s b me (packed 4 1 0) (exitBytes me reason monitor))) (take-more (l .mail .boxes) ns m (t .sent) n)
+            (subst (λ (x : Message). Agrees k (sent (x ∷ []) (left l (take (t .sent) ns) p q (r .worn))) (post k s b me (packed 4 1 0) (exitBytes me reason monitor))) (notice-is me reason monitor (actorId s b))
+            (post-agrees k s (left l (take (t .sent) ns) p q (r .worn)) b (w .good) (r .agrees) there me (packed 4 1 0) (exitBytes me reason monitor) y f));
+        count = omega (arith, r .count, length-append ns (m ∷ []));
+        full = λ h. absurd (h z);
+      }
+
+  -- it is lost
+  told-lost : hasRoom k (t .state) ≡ false → Along k l (ns ++ (notice me reason monitor (actorId (t .state) b) ∷ [])) p q (told (t .sent) (t .lost + 1) (t .state))
+  told-lost y =
+      let m = notice me reason monitor (actorId (t .state) b) in
+      record {
+        worn = r .worn;
+        agrees = subst (λ (ms : List Message). Agrees k (left l ms p q (r .worn)) (t .state)) (sym (take-append-le (t .sent) ns (m ∷ []) (omega (arith, r .count)))) (r .agrees);
+        count = omega (arith, r .count, length-append ns (m ∷ []));
+        full = λ h. y;
+      }
+
+  -- either
+  pub tell-along : Along k l (ns ++ (notice me reason monitor (actorId (t .state) b) ∷ [])) p q (tell k t b me reason monitor)
+  tell-along =
+      split (hasRoom k (t .state)) (λ y. rw (tell-sent k t b me reason monitor y) (told-sent y)) (λ y. rw (tell-lost k t b me reason monitor y) (told-lost y))
+
+-- ---- a link ends
+-- the room for messages is as it was
+tie-room : (k : Caps) (s : State) (e : ℕ) → hasRoom k (tie s e 0 0) ≡ hasRoom k s
+unfolding tie poke with-col
+tie-room k s e = refl
+
+-- a link with slot b ends on both sides
+untie-along : (k : Caps) (l : Ledger) (ns : List Message) (p : Link → Bool) (q : Monitor → Bool) (t : Told) (a b me : ℕ) → Going k a me (t .state) → alive (t .state STATE) b ≡ true →
+    linkOf k (t .state) (suc a) (suc b) < k .links → Along k l ns p q t →
+    Along k l ns (λ x. p x || Reckon.joins me (actorId (t .state) b) x) q (told (t .sent) (t .lost) (tie (t .state) (linkOf k (t .state) (suc a) (suc b)) 0 0))
+unfolding endLinks
+untie-along k l ns p q t a b me w there m r =
+    let s = t .state in
+    let e = linkOf k s (suc a) (suc b) in
+    let c = left l (take (t .sent) ns) p q (r .worn) in
+    record {
+      worn = r .worn;
+      agrees = subst (λ (x : List Link). Agrees k (withTies c (ties x (c .ties .monitors) (c .ties .worn))) (tie s e 0 0)) (those-then p (Reckon.joins me (actorId s b)) (l .ties .links))
+          (untie-agrees k c s (w .good) (r .agrees) e (Reckon.joins me (actorId s b)) m (λ d u n.
+          subst (λ (i : ℕ). Reckon.joins i (actorId s b) (linkAt s d) ≡ eqb d e) (w .id) (linked-once k c s (w .good) (r .agrees) a b (going-alive w) there m d u n)));
+      count = r .count;
+      full = λ h. tie-room k s e ∙ r .full h;
+    }
+
+-- ---- the links of slot a
+-- there is one with slot c
+abbrev pub linkedTo : Caps → State → ℕ → ℕ → Bool
+linkedTo k s a c = ltb (linkOf k s (suc a) (suc c)) (k .links)
+
+-- the notices to its partners below n
+abbrev pub linkNotes : Caps → State → ℕ → ℕ → ℕ → ℕ → List Message
+linkNotes k s a me reason n = rows (linkedTo k s a) (λ c. notice me reason 0 (actorId s c)) n
+
+-- a link of the reckoning is one with a partner below n
+abbrev pub linkGone : Caps → State → ℕ → ℕ → ℕ → Link → Bool
+linkGone k s a me n x = upto (λ c. linkedTo k s a c && Reckon.joins me (actorId s c) x) n
+
+-- before the first
+begin-along : (k : Caps) (l : Ledger) (s : State) → Agrees k l s → Along k l [] (λ x. false) (λ m. false) (told 0 0 s)
+begin-along k l s r = record { worn = l .ties .worn; agrees = rw (append-nil, those-all (l .ties .links), those-all (l .ties .monitors)) r; count = omega arith; full = λ h. absurd (h refl) }
+
+-- the same notices, links and monitors, otherwise said
+along-same : {k : Caps} {l : Ledger} {ns ms : List Message} {p p′ : Link → Bool} {q q′ : Monitor → Bool} {t : Told} → ns ≡ ms → p ≡ p′ → q ≡ q′ → Along k l ns p q t → Along k l ms p′ q′ t
+along-same {k} {l} {ns} {ms} {p} {p′} {q} {q′} {t} e f g r =
+    subst (λ (x : List Message). Along k l x p′ q′ t) e (subst (λ (x : Link → Bool). Along k l ns x q′ t) f (subst (λ (x : Monitor → Bool). Along k l ns p x t) g r))
+
+module _ (k : Caps) (l : Ledger) (s : State) (a me reason : ℕ) (q : Monitor → Bool) where
+  -- one more
+  link-along : (b : ℕ) (t : Told) → Cut k a me b s (t .state) → Along k l (linkNotes k s a me reason b) (linkGone k s a me b) q t →
+      Along k l (linkNotes k s a me reason (suc b)) (linkGone k s a me (suc b)) q (cutLink k a me reason b t)
+  link-along b t w r =
+      let u = t .state in
+      let e = linkOf k u (suc a) (suc b) in
+      let g = w .going .good in
+      let ns = linkNotes k s a me reason b in
+      let f : Link → ℕ → Bool = λ x c. linkedTo k s a c && Reckon.joins me (actorId s c) x in
+      let same : ltb (linkOf k u (suc a) (suc b)) (k .links) ≡ linkedTo k s a b =
+      ap (λ (x : ℕ). ltb x (k .links)) (lowest-same (joins (s LINK-ONE) (s LINK-TWO) (suc a) (suc b)) (joins (u LINK-ONE) (u LINK-TWO) (suc a) (suc b)) (k .links) (λ e l. w .joined b e l ∙ rw (le-ltb b b (omega arith)))) in
+      let id : actorId u b ≡ actorId s b = ap (λ (c : List ℕ). idOf 64 (getD c b 0) b) (w .beside 21 refl) in
+      split (ltb (linkOf k u (suc a) (suc b)) (k .links))
+      (λ y. let o = link-found k u a b g y in
+      let lk : linkedTo k s a b ≡ true = sym same ∙ y in
+      let c = untied k s u a me b e w (o .0) (o .1) in
+      let x : actorId (tie u e 0 0) b ≡ actorId s b = ap (λ (c : List ℕ). idOf 64 (getD c b 0) b) (tie-beside k u g e 0 0 21 refl) ∙ id in
+      rw (cutLink-yes k a me reason b t y)
+      (along-same (ap (λ (i : ℕ). ns ++ (notice me reason 0 i ∷ [])) x ∙ sym (rows-yes (linkedTo k s a) (λ c. notice me reason 0 (actorId s c)) b lk))
+      (ap (λ (i : ℕ). λ (x : Link). linkGone k s a me b x || Reckon.joins me i x) id ∙ upto-more f b (linkedTo k s a b) (Reckon.joins me (actorId s b)) (λ x. refl) lk) refl
+      (tell-along k l ns (λ x. linkGone k s a me b x || Reckon.joins me (actorId u b) x) q (told (t .sent) (t .lost) (tie u e 0 0)) a b me reason 0 (c .going)
+      (rw (tie-beside k u g e 0 0 18 refl) (o .2)) (untie-along k l ns (linkGone k s a me b) q t a b me (w .going) (o .2) (o .0) r))))
+      (λ y. let lk : linkedTo k s a b ≡ false = sym same ∙ y in
+      rw (cutLink-no k a me reason b t y)
+      (along-same (sym (rows-no (linkedTo k s a) (λ c. notice me reason 0 (actorId s c)) b lk)) (upto-less f b (linkedTo k s a b) (Reckon.joins me (actorId s b)) (λ x. refl) lk) refl r))
+
+  -- all below n
+  links-along : (n : ℕ) → Going k a me s → Along k l [] (λ x. false) q (told 0 0 s) → Along k l (linkNotes k s a me reason n) (linkGone k s a me n) q (cutLinks k a me reason n (told 0 0 s))
+  unfolding rows upto cutLinks
+  links-along zero w r = r
+  links-along (suc n) w r = link-along n (cutLinks k a me reason n (told 0 0 s)) (cutLinks-cuts k s (told 0 0 s) a me reason n (cut-none k s a me w)) (links-along n w r)
+
+-- ---- a monitor ends
+-- the room for messages is as it was
+unwatch-room : (k : Caps) (s : State) (i : ℕ) → hasRoom k (unwatch s i) ≡ hasRoom k s
+unfolding unwatch poke with-col
+unwatch-room k s i = refl
+
+-- monitor i ends on both sides
+unwatch-along : (k : Caps) (l : Ledger) (ns : List Message) (p : Link → Bool) (q : Monitor → Bool) (t : Told) (i : ℕ) → Good k (t .state) → i < k .monitors → Along k l ns p q t →
+    Along k l ns p (λ m. q m || eqb (m .id) (monitorId (t .state) i)) (told (t .sent) (t .lost) (unwatch (t .state) i))
+unfolding endMonitors
+unwatch-along k l ns p q t i g m r =
+    let s = t .state in
+    let c = left l (take (t .sent) ns) p q (r .worn) in
+    let ws = r .worn ++ wornBy 128 (map (λ m. m .id) (those (λ m. eqb (m .id) (monitorId s i)) (c .ties .monitors))) in
+    record {
+      worn = ws;
+      agrees = subst (λ (x : List Monitor). Agrees k (withTies c (ties (c .ties .links) x ws)) (unwatch s i)) (those-then q (λ m. eqb (m .id) (monitorId s i)) (l .ties .monitors)) (unwatch-agrees k c s i g (r .agrees) m);
+      count = r .count;
+      full = λ h. unwatch-room k s i ∙ r .full h;
+    }
+
+-- ---- the monitors on slot a
+-- monitor i is on it
+abbrev pub seenBy : State → ℕ → ℕ → Bool
+seenBy s a i = eqb (at s WATCHED i) (suc a)
+
+-- the notices to its watchers by monitors below n
+abbrev pub eyeNotes : State → ℕ → ℕ → ℕ → ℕ → List Message
+eyeNotes s a me reason n = rows (seenBy s a) (λ i. notice me reason (monitorId s i) (actorId s (at s WATCHER i - 1))) n
+
+-- a monitor of the reckoning is one on it, below n
+abbrev pub eyeGone : State → ℕ → ℕ → Monitor → Bool
+eyeGone s a n m = upto (λ i. seenBy s a i && eqb (m .id) (monitorId s i)) n
+
+module _ (k : Caps) (l : Ledger) (s : State) (a me reason : ℕ) (ns : List Message) (p : Link → Bool) where
+  -- one more
+  monitor-along : (i : ℕ) (t : Told) → i < k .monitors → Unseen k a me i s (t .state) → Along k l (ns ++ eyeNotes s a me reason i) p (eyeGone s a i) t →
+      Along k l (ns ++ eyeNotes s a me reason (suc i)) p (eyeGone s a (suc i)) (cutMonitor k a me reason i t)
+  monitor-along i t m w r =
+      let u = t .state in
+      let g = w .going .good in
+      let es = eyeNotes s a me reason i in
+      let f : Monitor → ℕ → Bool = λ x i. seenBy s a i && eqb (x .id) (monitorId s i) in
+      let n = unseen-next k s u a me i w in
+      let same : eqb (at u WATCHED i) (suc a) ≡ seenBy s a i = ap (λ (x : ℕ). eqb x (suc a)) (n .0) in
+      let id : monitorId u i ≡ monitorId s i = ap (λ (c : List ℕ). idOf 128 (getD c i 0) i) (w .age) in
+      split (eqb (at u WATCHED i) (suc a))
+      (λ y. let o = watcher-there k u a i g m (eqb-true (at u WATCHED i) (suc a) y) in
+      let sn : seenBy s a i ≡ true = sym same ∙ y in
+      let x = unwatch-ends k u i (g .sized) m in
+      let c = unseen-one k s u a me i w m sn in
+      let who : actorId (unwatch u i) (at u WATCHER i - 1) ≡ actorId s (at s WATCHER i - 1) = ap₂ (λ (c : List ℕ) (v : ℕ). idOf 64 (getD c (v - 1) 0) (v - 1)) (x .beside 21 refl ∙ w .beside 21 refl) (n .1) in
+      rw (cutMonitor-yes k a me reason i t y)
+      (along-same
+      (append-assoc ns es _ ∙ ap (λ (l : List Message). ns ++ l) (ap₂ (λ (i : ℕ) (j : ℕ). es ++ (notice me reason i j ∷ [])) id who ∙ sym (rows-yes (seenBy s a) (λ i. notice me reason (monitorId s i) (actorId s (at s WATCHER i - 1))) i sn)))
+      refl
+      (ap (λ (j : ℕ). λ (x : Monitor). eyeGone s a i x || eqb (x .id) j) id ∙ upto-more f i (seenBy s a i) (λ x. eqb (x .id) (monitorId s i)) (λ x. refl) sn)
+      (tell-along k l (ns ++ es) p (λ m. eyeGone s a i m || eqb (m .id) (monitorId u i)) (told (t .sent) (t .lost) (unwatch u i)) a (at u WATCHER i - 1) me reason (monitorId u i) (c .going)
+      (rw (x .beside 18 refl) (o .1)) (unwatch-along k l (ns ++ es) p (eyeGone s a i) t i g m r))))
+      (λ y. let sn : seenBy s a i ≡ false = sym same ∙ y in
+      rw (cutMonitor-no k a me reason i t y)
+      (along-same (ap (λ (l : List Message). ns ++ l) (sym (rows-no (seenBy s a) (λ i. notice me reason (monitorId s i) (actorId s (at s WATCHER i - 1))) i sn))) refl
+      (upto-less f i (seenBy s a i) (λ x. eqb (x .id) (monitorId s i)) (λ x. refl) sn) r))
+
+  -- all below n
+  monitors-along : (n : ℕ) (t : Told) → n ≤ k .monitors → Unseen k a me 0 s (t .state) → Along k l ns p (λ m. false) t → Along k l (ns ++ eyeNotes s a me reason n) p (eyeGone s a n) (cutMonitors k a me reason n t)
+  unfolding rows upto cutMonitors
+  monitors-along zero t h w r = rw append-nil r
+  monitors-along (suc n) t h w r =
+      monitor-along n (cutMonitors k a me reason n t) (omega arith) (cutMonitors-cuts k s t a me reason n (omega arith) w) (monitors-along n t (omega arith) w r)
+
+-- ---- the reckoning's notices
+module _ (k : Caps) (s : State) (l : Ledger) (g : Good k s) (r : Agrees k l s) (a reason : ℕ) (there : alive (s STATE) a ≡ true) where
+  -- a slot with which there is a link is alive
+  linked-there : (c : ℕ) → linkedTo k s a c ≡ true → alive (s STATE) c ≡ true
+  linked-there c q = link-found k s a c g q .2
+
+  -- no slot past the last has a link
+  linked-past : (c : ℕ) → k .actors ≤ c → linkedTo k s a c ≡ false
+  linked-past c h = split (linkedTo k s a c) (λ q. absurd (omega (arith, alive-slot k s g c (linked-there c q)))) (λ q. q)
+
+  -- "links removed by ascending partner slot, each partner sent a notice"
+  link-notices : map (λ x. notice (actorId s a) reason 0 (x .id)) (bySlot (λ x. x .id % 64) 64 (those (λ x. linked l (actorId s a) (x .id)) (l .people .live))) ≡ linkNotes k s a (actorId s a) reason (k .actors)
+  link-notices =
+      let me = actorId s a in
+      let f : ℕ → Message = λ c. notice (actorId s a) reason 0 (actorId s c) in
+      let used : (e : ℕ) → 0 < occurs e (r .slots) → alive (s STATE) e ≡ true = λ e o. exact-used (alive (s STATE)) (r .slots) e (r .allSlots) o in
+      ap (λ (x : List Actor). map (λ x. notice (actorId s a) reason 0 (x .id)) (bySlot (λ x. x .id % 64) 64 x))
+      (ap (those (λ x. linked l (actorId s a) (x .id))) (r .live) ∙ those-map (λ x. linked l (actorId s a) (x .id)) (actorAt s) (r .slots)
+      ∙ ap (map (actorAt s)) (keep-same-on (λ e. linked l (actorId s a) (actorId s e)) (linkedTo k s a) (r .slots) (λ e o. linked-same k l s g r a e there (used e o))))
+      ∙ ap (map (λ x. notice (actorId s a) reason 0 (x .id))) (slot-map (λ x. x .id % 64) (actorAt s) 64 (keep (linkedTo k s a) (r .slots)))
+      ∙ map-map (λ x. notice (actorId s a) reason 0 (x .id)) (actorAt s) (bySlot (λ e. actorId s e % 64) 64 (keep (linkedTo k s a) (r .slots)))
+      ∙ ap (map f) (slot-rows (λ e. actorId s e % 64) (alive (s STATE)) (linkedTo k s a) (r .slots) (r .allSlots) (λ e o. slot-of-id 64 (at s AGE e) e (omega (arith, alive-slot k s g e (used e o), g .range .fewActors))) 64)
+      ∙ map-rows f (λ e. alive (s STATE) e && linkedTo k s a e) (λ e. e) 64
+      ∙ rows-same (λ e. alive (s STATE) e && linkedTo k s a e) (linkedTo k s a) f f 64 (λ e h. split (linkedTo k s a e) (λ q. rw (q, linked-there e q)) (λ q. rw q (and-false (alive (s STATE) e)))) (λ e h. refl)
+      ∙ rows-past (linkedTo k s a) f (k .actors) 64 (g .range .fewActors) linked-past
+
+  -- a monitor on slot a is one of them, and in use
+  seen-there : (i : ℕ) → seenBy s a i ≡ true → (i < k .monitors) × (at s WATCHER i ≡ 0 → ⊥)
+  seen-there i q =
+      let e = eqb-true (at s WATCHED i) (suc a) q in
+      let m : i < k .monitors = omega (arith, used-inside (s WATCHED) i (λ z. omega arith), g .sized .words 36 (lit< tt)) in
+      (m, watcher-there k s a i g m e .0)
+
+  -- the target of a monitor is the actor on both sides, or on neither
+  target-same : (e : ℕ) → 0 < occurs e (r .eyes) → eqb (actorId s (at s WATCHED e - 1)) (actorId s a) ≡ seenBy s a e
+  target-same e o =
+      let c = eye-used k l s s g r e o in
+      let h = g .monitors e (c .1) .1 .1 (c .0) in
+      up-id k l s g r (at s WATCHED e) a (h .1 .0 .0) (h .1 .0 .1) there
+
+  -- "monitors on the actor removed by ascending monitor slot, each watcher sent a notice"
+  eye-notices : map (λ m. notice (actorId s a) reason (m .id) (m .watcher)) (bySlot (λ m. m .id % 128) 128 (those (λ m. eqb (m .target) (actorId s a)) (l .ties .monitors))) ≡ eyeNotes s a (actorId s a) reason (k .monitors)
+  eye-notices =
+      let f : ℕ → Message = λ i. notice (actorId s a) reason (monitorId s i) (actorId s (at s WATCHER i - 1)) in
+      let u : ℕ → Bool = λ i. not (unused (s WATCHER) i) in
+      ap (λ (x : List Monitor). map (λ m. notice (actorId s a) reason (m .id) (m .watcher)) (bySlot (λ m. m .id % 128) 128 x))
+      (ap (those (λ m. eqb (m .target) (actorId s a))) (r .monitors) ∙ those-map (λ m. eqb (m .target) (actorId s a)) (monitorAt s) (r .eyes)
+      ∙ ap (map (monitorAt s)) (keep-same-on (λ e. eqb (actorId s (at s WATCHED e - 1)) (actorId s a)) (seenBy s a) (r .eyes) target-same))
+      ∙ ap (map (λ m. notice (actorId s a) reason (m .id) (m .watcher))) (slot-map (λ m. m .id % 128) (monitorAt s) 128 (keep (seenBy s a) (r .eyes)))
+      ∙ map-map (λ m. notice (actorId s a) reason (m .id) (m .watcher)) (monitorAt s) (bySlot (λ e. monitorId s e % 128) 128 (keep (seenBy s a) (r .eyes)))
+      ∙ ap (map f) (slot-rows (λ e. monitorId s e % 128) u (seenBy s a) (r .eyes) (r .allEyes) (λ e o. slot-of-id 128 (at s MONITOR-AGE e) e (omega (arith, eye-used k l s s g r e o .1, g .range .fewMonitors))) 128)
+      ∙ map-rows f (λ e. u e && seenBy s a e) (λ e. e) 128
+      ∙ rows-same (λ e. u e && seenBy s a e) (seenBy s a) f f 128 (λ e h. split (seenBy s a e) (λ q. rw (q, ne-eqb (at s WATCHER e) 0 (seen-there e q .1))) (λ q. rw q (and-false (u e)))) (λ e h. refl)
+      ∙ rows-past (seenBy s a) f (k .monitors) 128 (g .range .fewMonitors) (λ e h. split (seenBy s a e) (λ q. absurd (omega (arith, seen-there e q .0))) (λ q. q))
+
+  -- both
+  pub notices-are : linkNotes k s a (actorId s a) reason (k .actors) ++ eyeNotes s a (actorId s a) reason (k .monitors) ≡ notices l (actorId s a) reason
+  unfolding notices
+  notices-are = ap₂ (λ (x y : List Message). x ++ y) (sym link-notices) (sym eye-notices)
+
+-- ---- the links and the monitors that are left
+module _ (k : Caps) (s : State) (l : Ledger) (g : Good k s) (r : Agrees k l s) (a : ℕ) (there : alive (s STATE) a ≡ true) where
+  -- a link that has slot a at one end goes with its partner at the other
+  gone-with : (e c : ℕ) → e < k .links → (at s LINK-ONE e ≡ 0 → ⊥) → alive (s STATE) c ≡ true → joins (s LINK-ONE) (s LINK-TWO) (suc a) (suc c) e ≡ true → linkGone k s a (actorId s a) (k .actors) (linkAt s e) ≡ true
+  gone-with e c m n live j =
+      let i = linkOf k s (suc a) (suc c) in
+      let found : linkedTo k s a c ≡ true = split (ltb i (k .links)) (λ q. q)
+      (λ q. true-false (joins (s LINK-ONE) (s LINK-TWO) (suc a) (suc c) e) j (lowest-first (joins (s LINK-ONE) (s LINK-TWO) (suc a) (suc c)) (k .links) e (omega (arith, ltb-false i (k .links) q)))) in
+      upto-yes (λ d. linkedTo k s a d && Reckon.joins (actorId s a) (actorId s d) (linkAt s e)) c (k .actors) (alive-slot k s g c live)
+      (rw found (bond-joins k l s g r a c e there live n m ∙ j))
+
+  -- a link goes exactly where the actor is at one of its ends
+  link-goes : (e : ℕ) → 0 < occurs e (r .bonds) → linkGone k s a (actorId s a) (k .actors) (linkAt s e) ≡ eqb (actorId s (at s LINK-ONE e - 1)) (actorId s a) || eqb (actorId s (at s LINK-TWO e - 1)) (actorId s a)
+  unfolding joins
+  link-goes e o =
+      let u = bond-used k l s g r e o in
+      let h = g .links e (u .1) .1 (u .0) in
+      let one : suc (at s LINK-ONE e - 1) ≡ at s LINK-ONE e = omega (arith, h .0 .0) in
+      let two : suc (at s LINK-TWO e - 1) ≡ at s LINK-TWO e = omega (arith, h .1 .0 .0) in
+      rw (up-id k l s g r (at s LINK-ONE e) a (h .0 .0) (h .0 .1) there, up-id k l s g r (at s LINK-TWO e) a (h .1 .0 .0) (h .1 .0 .1) there)
+      (split (eqb (at s LINK-ONE e) (suc a))
+      (λ p. rw p (gone-with e (at s LINK-TWO e - 1) (u .1) (u .0) (h .1 .0 .1) (rw (two, p, eq-eqb (at s LINK-TWO e) (at s LINK-TWO e) refl))))
+      (λ p. split (eqb (at s LINK-TWO e) (suc a))
+      (λ q. rw (p, q) (gone-with e (at s LINK-ONE e - 1) (u .1) (u .0) (h .0 .1) (rw (one, p, q, eq-eqb (at s LINK-ONE e) (at s LINK-ONE e) refl))))
+      (λ q. rw (p, q) (upto-no (λ d. linkedTo k s a d && Reckon.joins (actorId s a) (actorId s d) (linkAt s e)) (k .actors) (λ d m.
+      split (linkedTo k s a d)
+      (λ f. rw f (bond-joins k l s g r a d e there (link-found k s a d g f .2) (u .0) (u .1) ∙ rw (p, q) (and-false (eqb (at s LINK-ONE e) (suc d)))))
+      (λ f. rw f))))))
+
+  -- the links that are left
+  pub links-stay : those (λ x. not (eqb (x .one) (actorId s a) || eqb (x .two) (actorId s a))) (l .ties .links) ≡ those (λ x. not (linkGone k s a (actorId s a) (k .actors) x)) (l .ties .links)
+  links-stay =
+      rw (r .links)
+      (those-map (λ x. not (eqb (x .one) (actorId s a) || eqb (x .two) (actorId s a))) (linkAt s) (r .bonds)
+      ∙ ap (map (linkAt s)) (keep-same-on (λ e. not (eqb (actorId s (at s LINK-ONE e - 1)) (actorId s a) || eqb (actorId s (at s LINK-TWO e - 1)) (actorId s a))) (λ e. not (linkGone k s a (actorId s a) (k .actors) (linkAt s e))) (r .bonds) (λ e o. ap not (sym (link-goes e o))))
+      ∙ sym (those-map (λ x. not (linkGone k s a (actorId s a) (k .actors) x)) (linkAt s) (r .bonds)))
+
+  -- a monitor goes exactly where the actor is its target
+  eye-goes : (e : ℕ) → 0 < occurs e (r .eyes) → eyeGone s a (k .monitors) (monitorAt s e) ≡ seenBy s a e
+  eye-goes e o =
+      let u = eye-used k l s s g r e o in
+      let same : (i : ℕ) → i < k .monitors → eqb (monitorId s e) (monitorId s i) ≡ eqb e i = λ i m. TieLaws.id-eqb 128 (s MONITOR-AGE) e i (omega (arith, u .1, g .range .fewMonitors)) (omega (arith, g .range .fewMonitors)) in
+      split (seenBy s a e)
+      (λ q. rw q (upto-yes (λ i. seenBy s a i && eqb (monitorId s e) (monitorId s i)) e (k .monitors) (u .1) (rw (q, same e (u .1)) (eq-eqb e e refl))))
+      (λ q. rw q (upto-no (λ i. seenBy s a i && eqb (monitorId s e) (monitorId s i)) (k .monitors) (λ i m. rw (same i m)
+      (split (eqb e i) (λ z. rw (z, ← eqb-true e i z, q)) (λ z. rw z (and-false (seenBy s a i)))))))
+
+  -- the monitors that are left once those by which the actor watches are gone too
+  pub eyes-stay : those (λ m. not (eqb (m .target) (actorId s a) || eqb (m .watcher) (actorId s a))) (l .ties .monitors)
+      ≡ those (λ m. not (eqb (m .watcher) (actorId s a))) (those (λ m. not (eyeGone s a (k .monitors) m)) (l .ties .monitors))
+  eyes-stay =
+      rw (r .monitors)
+      (those-map (λ m. not (eqb (m .target) (actorId s a) || eqb (m .watcher) (actorId s a))) (monitorAt s) (r .eyes)
+      ∙ ap (map (monitorAt s)) (keep-same-on (λ e. not (eqb (actorId s (at s WATCHED e - 1)) (actorId s a) || eqb (actorId s (at s WATCHER e - 1)) (actorId s a))) (λ e. not (eyeGone s a (k .monitors) (monitorAt s e) || eqb (actorId s (at s WATCHER e - 1)) (actorId s a))) (r .eyes)
+      (λ e o. ap (λ (b : Bool). not (b || eqb (actorId s (at s WATCHER e - 1)) (actorId s a))) (target-same k s l g r a 0 there e o ∙ sym (eye-goes e o))))
+      ∙ sym (those-map (λ m. not (eyeGone s a (k .monitors) m || eqb (m .watcher) (actorId s a))) (monitorAt s) (r .eyes))
+      ∙ sym (those-then (eyeGone s a (k .monitors)) (λ m. eqb (m .watcher) (actorId s a)) (map (monitorAt s) (r .eyes))))
+
+  -- the worn slots of monitors, where just these ended
+  pub eyes-worn : (u : State) → u MONITOR-AGE ≡ s MONITOR-AGE → ((e : ℕ) → at u WATCHER e ≡ cond (seenBy s a e || eqb (at s WATCHER e) (suc a)) 0 (at s WATCHER e)) →
+      Exact (l .ties .worn ++ wornBy 128 (map (λ m. m .id) (those (λ m. eqb (m .target) (actorId s a) || eqb (m .watcher) (actorId s a)) (l .ties .monitors)))) (isWorn (u WATCHER) (u MONITOR-AGE))
+  eyes-worn u y h =
+      let p : ℕ → Bool = λ e. seenBy s a e || eqb (at s WATCHER e) (suc a) in
+      let same : (e : ℕ) → 0 < occurs e (r .eyes) → eqb (actorId s (at s WATCHED e - 1)) (actorId s a) || eqb (actorId s (at s WATCHER e - 1)) (actorId s a) ≡ seenBy s a e || eqb (at s WATCHER e) (suc a) =
+      λ e o. (let c = eye-used k l s s g r e o in
+      let n = g .monitors e (c .1) .1 .1 (c .0) in
+      ap₂ (λ (x y : Bool). x || y) (target-same k s l g r a 0 there e o) (up-id k l s g r (at s WATCHER e) a (n .0 .0) (n .0 .1) there)) in
+      rw (
+        r .monitors,
+        those-map (λ m. eqb (m .target) (actorId s a) || eqb (m .watcher) (actorId s a)) (monitorAt s) (r .eyes),
+        keep-same-on (λ e. eqb (actorId s (at s WATCHED e - 1)) (actorId s a) || eqb (actorId s (at s WATCHER e - 1)) (actorId s a)) (λ e. seenBy s a e || eqb (at s WATCHER e) (suc a)) (r .eyes) same,
+        map-map (λ x. x .id) (monitorAt s) (keep (λ e. seenBy s a e || eqb (at s WATCHER e) (suc a)) (r .eyes)),
+        y,
+      )
+      (worn-ends (s WATCHER) (u WATCHER) p h 128 (s MONITOR-AGE) (r .eyes) (l .ties .worn) (λ e o. omega (arith, eye-used k l s s g r e o .1, g .range .fewMonitors)) (r .allEyes) (r .wornEyes))
+
+-- the same with its links, monitors and worn slots of monitors otherwise listed
+ties-again : (k : Caps) (l : Ledger) (s : State) (links : List Link) (monitors : List Monitor) (worn : List ℕ) → links ≡ l .ties .links → monitors ≡ l .ties .monitors → Exact worn (isWorn (s WATCHER) (s MONITOR-AGE)) →
+    Agrees k l s → Agrees k (withTies l (ties links monitors worn)) s
+ties-again k l s links monitors worn e f x r = record {
+  sizes = r .sizes;
+  clock = r .clock;
+  running = r .running;
+  slots = r .slots;
+  allSlots = r .allSlots;
+  live = r .live;
+  wornSlots = r .wornSlots;
+  allBoxes = r .allBoxes;
+  boxes = r .boxes;
+  palms = r .palms;
+  allPalms = r .allPalms;
+  hands = r .hands;
+  allDatas = r .allDatas;
+  clocks = r .clocks;
+  allClocks = r .allClocks;
+  timers = r .timers;
+  wornClocks = r .wornClocks;
+  bonds = r .bonds;
+  allBonds = r .allBonds;
+  links = e ∙ r .links;
+  eyes = r .eyes;
+  allEyes = r .allEyes;
+  monitors = f ∙ r .monitors;
+  wornEyes = x;
+}
+
+-- ---- the slot is given back
+pub leave-agrees : (k : Caps) (s : State) (l : Ledger) (a : ℕ) → Good k s → Agrees k l s → alive (s STATE) a ≡ true → Agrees k (gone (actorId s a) l) (leave s a)
+unfolding gone leave poke with-col alive
+leave-agrees k s l a g r there =
+    let m = alive-slot k s g a there in
+    let used : (e : ℕ) → 0 < occurs e (r .slots) → alive (s STATE) e ≡ true = λ e o. exact-used (alive (s STATE)) (r .slots) e (r .allSlots) o in
+    let once : occurs a (r .slots) ≡ 1 = rw there at (r .allSlots a) in
+    let alone : keep (λ e. eqb e a) (r .slots) ≡ a ∷ [] = keep-once (λ e. true) a (r .slots) refl once in
+    let set₀ : (e : ℕ) → getD (set (s STATE) a 0) e 0 ≡ cond (eqb e a) 0 (at s STATE e) = λ e. set-cond (s STATE) a 0 e (omega (arith, g .sized .words 18 (lit< tt))) in
+    record {
+      sizes = r .sizes;
+      clock = r .clock;
+      running = rw (set-zero (s RUNNING) 0);
+      slots = keep (λ b. not (eqb b a)) (r .slots);
+      allSlots = ends (s STATE) (set (s STATE) a 0) (λ e. eqb e a) set₀ (r .slots) (r .allSlots);
+      live = ap (those (λ x. not (eqb (x .id) (actorId s a)))) (r .live) ∙ those-map (λ x. not (eqb (x .id) (actorId s a))) (actorAt s) (r .slots)
+          ∙ ap (map (actorAt s)) (keep-same-on (λ b. not (eqb (actorId s b) (actorId s a))) (λ b. not (eqb b a)) (r .slots) (λ b o. ap not (id-eqb k s g b a (used b o) there)))
+          ∙ map-same-on (actorAt s) (actorAt (leave s a)) (keep (λ b. not (eqb b a)) (r .slots)) (λ b o. rw (other (s PRIORITY) a 0 b (not-true (eqb b a) (keep-in (λ b. not (eqb b a)) (r .slots) b o .1))));
+      wornSlots = rw alone at (worn-ends (s STATE) (set (s STATE) a 0) (λ e. eqb e a) set₀ 64 (s AGE) (r .slots) (l .people .worn) (λ e o. omega (arith, alive-slot k s g e (used e o), g .range .fewActors)) (r .allSlots) (r .wornSlots));
+      allBoxes = r .allBoxes;
+      boxes = r .boxes;
+      palms = r .palms;
+      allPalms = r .allPalms;
+      hands = r .hands;
+      allDatas = r .allDatas;
+      clocks = r .clocks;
+      allClocks = r .allClocks;
+      timers = r .timers;
+      wornClocks = r .wornClocks;
+      bonds = r .bonds;
+      allBonds = r .allBonds;
+      links = r .links;
+      eyes = r .eyes;
+      allEyes = r .allEyes;
+      monitors = r .monitors;
+      wornEyes = r .wornEyes;
+    }
+
+-- ---- all of an exit
+-- the notices and the monitors that end are the same by other columns that are the same
+eyes-same : (s u : State) (a me reason n : ℕ) → u WATCHED ≡ s WATCHED → u WATCHER ≡ s WATCHER → u MONITOR-AGE ≡ s MONITOR-AGE → u AGE ≡ s AGE →
+    (eyeNotes u a me reason n ≡ eyeNotes s a me reason n) × (eyeGone u a n ≡ eyeGone s a n)
+eyes-same s u a me reason n e f y z = (
+  rows-same (seenBy u a) (seenBy s a) (λ i. notice me reason (monitorId u i) (actorId u (at u WATCHER i - 1))) (λ i. notice me reason (monitorId s i) (actorId s (at s WATCHER i - 1))) n (λ i l. rw e) (λ i l. rw (f, y, z)),
+  ap₂ (λ (c d : List ℕ). λ (m : Monitor). upto (λ i. eqb (getD c i 0) (suc a) && eqb (m .id) (idOf 128 (getD d i 0) i)) n) e y,
+)
+
+module _ (k : Caps) (s : State) (l : Ledger) (g : Good k s) (r : Agrees k l s) (a reason : ℕ) (run : runner s ≡ suc a) where
+  -- the running actor is alive
+  runs-there : alive (s STATE) a ≡ true
+  runs-there = alive-of (s STATE) a (λ z. omega (arith, flag-eq (at s STATE a) RUNS (g .runs a (omega (arith, g .head .0 .1)) ∙ rw (eq-eqb (runner s) (suc a) run))))
+
+  -- "hand and mailbox freed"
+  emptied-agrees : Agrees k (cleared (actorId s a) l) (emptied s a)
+  unfolding cleared
+  emptied-agrees =
+      let m : a < k .actors = omega (arith, g .head .0 .1) in
+      let w : letGo s a STATE ≡ s STATE = letGo-else s a STATE (refl, refl, refl, refl, refl, refl, refl, refl, refl) refl in
+      let v : letGo s a AGE ≡ s AGE = letGo-else s a AGE (refl, refl, refl, refl, refl, refl, refl, refl, refl) refl in
+      let h = dropAll-agrees k (letGo s a) (handless (actorId s a) l) a (letGo-keeps k s a g m) (letGo-agrees-at k s l g r a runs-there) (rw w runs-there) in
+      rw (v, letGo-arrived s a) at h
+
+  -- the notices are the reckoning's, sent as long as there is room, and the links and the monitors on the actor are gone
+  pub farewell-along : Along k (cleared (actorId s a) l) (notices l (actorId s a) reason) (linkGone k (emptied s a) a (actorId s a) (k .actors)) (eyeGone (emptied s a) a (k .monitors)) (farewell k a (actorId s a) reason s)
+  unfolding farewell cleared notices
+  farewell-along =
+      let s₀ = emptied s a in
+      let me = actorId s a in
+      let w = emptied-going k s g a run in
+      let c = links-cut k s g a reason run in
+      let t = cutLinks k a me reason (k .actors) (told 0 0 s₀) in
+      let v = t .state in
+      let ns = linkNotes k s₀ a me reason (k .actors) in
+      let p = linkGone k s₀ a me (k .actors) in
+      let e = eyes-same s₀ v a me reason (k .monitors) (c .beside 36 refl) (c .beside 35 refl) (c .beside 37 refl) (c .beside 21 refl) in
+      let all : ns ++ eyeNotes s₀ a me reason (k .monitors) ≡ notices (cleared me l) me reason =
+      subst (λ (i : ℕ). linkNotes k s₀ a i reason (k .actors) ++ eyeNotes s₀ a i reason (k .monitors) ≡ notices (cleared me l) i reason) (w .id)
+      (notices-are k s₀ (cleared me l) (w .good) emptied-agrees a reason (going-alive w)) in
+      along-same (ap (λ (l : List Message). ns ++ l) (e .0) ∙ all) refl (e .1)
+      (monitors-along k (cleared me l) v a me reason ns p (k .monitors) t (omega arith) (unseen-none k v a me (c .going))
+      (links-along k (cleared me l) s₀ a me reason (λ m. false) (k .actors) w (begin-along k (cleared me l) s₀ emptied-agrees)))
+
+-- what is left of a monitor's watcher once the monitors on an actor and then its own are gone
+watcher-left : (n e : ℕ) (seen : Bool) (x v : ℕ) → (ltb e n ≡ false → x ≡ 0) → (v ≡ 0 → ⊥) →
+    cond (ltb e n && eqb (cond (ltb e n && seen) 0 x) v) 0 (cond (ltb e n && seen) 0 x) ≡ cond (seen || eqb x v) 0 x
+watcher-left n e seen x v h d =
+    split (ltb e n)
+    (λ q. rw q (split seen (λ p. rw (p, ne-eqb 0 v (λ z. d (sym z)))) (λ p. rw p)))
+    (λ q. rw (q, h q) (split (seen || eqb 0 v) (λ p. rw p) (λ p. rw p)))
+
+-- the slot that is given back leaves the monitors as they are
+leave-eyes : (s : State) (a : ℕ) → (leave s a WATCHER ≡ s WATCHER) × (leave s a MONITOR-AGE ≡ s MONITOR-AGE)
+unfolding leave poke with-col
+leave-eyes s a = (refl, refl)
+
+module _ (k : Caps) (s : State) (l : Ledger) (g : Good k s) (r : Agrees k l s) (a reason : ℕ) (run : runner s ≡ suc a) where
+  -- the watchers that are left
+  watchers-left : (e : ℕ) → at (dropped k a (farewell k a (actorId s a) reason s .state)) WATCHER e ≡ cond (seenBy (emptied s a) a e || eqb (at (emptied s a) WATCHER e) (suc a)) 0 (at (emptied s a) WATCHER e)
+  watchers-left e =
+      let u = farewell k a (actorId s a) reason s .state in
+      let m = dropMonitors a (k .monitors) u in
+      let c = links-cut k s g a reason run in
+      let w = monitors-cut k s g a reason run in
+      let gu = w .going .good in
+      let x = dropMonitors-ends k a u (gu .sized) in
+      let y = dropTimers-ends k a m (dropMonitors-keeps k a u gu .sized) in
+      let h : at u WATCHER e ≡ cond (below (emptied s a WATCHED) (suc a) (k .monitors) e) 0 (at (emptied s a) WATCHER e) = rw (c .beside 36 refl, c .beside 35 refl) at (w .watcher e) in
+      rw (y .beside 35 refl) (x .watcher e ∙ rw h
+      (watcher-left (k .monitors) e (seenBy (emptied s a) a e) (at (emptied s a) WATCHER e) (suc a)
+      (λ q. List·getD-eq-default (emptied s a WATCHER) 0 {n = e} (omega (arith, ltb-false e (k .monitors) q, emptied-going k s g a run .good .sized .words 35 (lit< tt)))) (λ z. omega arith)))
+
+  -- and the ages of the monitors' slots
+  ages-left : dropped k a (farewell k a (actorId s a) reason s .state) MONITOR-AGE ≡ emptied s a MONITOR-AGE
+  ages-left =
+      let u = farewell k a (actorId s a) reason s .state in
+      let w = monitors-cut k s g a reason run in
+      let gu = w .going .good in
+      dropTimers-ends k a (dropMonitors a (k .monitors) u) (dropMonitors-keeps k a u gu .sized) .beside 37 refl ∙ dropMonitors-ends k a u (gu .sized) .age ∙ w .age ∙ links-cut k s g a reason run .beside 37 refl
+
+  -- THE LAW of an actor that ends: the reckoning has nothing of it, and the notices that were sent
+  pub departed-agrees : Agrees k (departed (actorId s a) reason (farewell k a (actorId s a) reason s .sent) l) (leave (dropped k a (farewell k a (actorId s a) reason s .state)) a)
+  unfolding departed gone endTimers endMonitors endLinks cleared
+  departed-agrees =
+      let me = actorId s a in
+      let s₀ = emptied s a in
+      let l₀ = cleared me l in
+      let w₀ = emptied-going k s g a run in
+      let r₀ = emptied-agrees k s l g r a reason run in
+      let t = farewell k a me reason s in
+      let u = t .state in
+      let w = monitors-cut k s g a reason run in
+      let gu = w .going .good in
+      let m = dropMonitors a (k .monitors) u in
+      let gm = dropMonitors-keeps k a u gu in
+      let x = dropMonitors-ends k a u (gu .sized) in
+      let f = dropTimers a (k .timers) m in
+      let gf = dropTimers-keeps k a m gm in
+      let y = dropTimers-ends k a m (gm .sized) in
+      let im : actorId m a ≡ me = ap (λ (c : List ℕ). idOf 64 (getD c a 0) a) (x .beside 21 refl) ∙ w .going .id in
+      let if : actorId f a ≡ me = ap (λ (c : List ℕ). idOf 64 (getD c a 0) a) (y .beside 21 refl) ∙ im in
+      let vm : alive (m STATE) a ≡ true = ap (λ (c : List ℕ). alive c a) (x .beside 18 refl) ∙ going-alive (w .going) in
+      let vf : alive (f STATE) a ≡ true = ap (λ (c : List ℕ). alive c a) (y .beside 18 refl) ∙ vm in
+      let z = farewell-along k s l g r a reason run in
+      let l₁ = left l₀ (take (t .sent) (notices l me reason)) (linkGone k s₀ a me (k .actors)) (eyeGone s₀ a (k .monitors)) (z .worn) in
+      let l₂ = endMonitors (λ m. eqb (m .watcher) me) l₁ in
+      let l₃ = endTimers (λ t. eqb (t .owner) me) l₂ in
+      let a₂ : Agrees k l₂ m = subst (λ (i : ℕ). Agrees k (endMonitors (λ m. eqb (m .watcher) i) l₁) m) (w .going .id) (dropMonitors-agrees k l₁ u gu (z .agrees) a (going-alive (w .going))) in
+      let a₃ : Agrees k l₃ f = subst (λ (i : ℕ). Agrees k (endTimers (λ t. eqb (t .owner) i) l₂) f) im (dropTimers-agrees k l₂ m gm a₂ a vm) in
+      let a₄ : Agrees k (gone me l₃) (leave f a) = subst (λ (i : ℕ). Agrees k (gone i l₃) (leave f a)) if (leave-agrees k f l₃ a gf a₃ vf) in
+      let v = leave-eyes f a in
+      ties-again k (gone me l₃) (leave f a)
+      (those (λ x. not (eqb (x .one) me || eqb (x .two) me)) (l .ties .links))
+      (those (λ m. not (eqb (m .target) me || eqb (m .watcher) me)) (l .ties .monitors))
+      (l .ties .worn ++ wornBy 128 (map (λ m. m .id) (those (λ m. eqb (m .target) me || eqb (m .watcher) me) (l .ties .monitors))))
+      (subst (λ (i : ℕ). those (λ x. not (eqb (x .one) i || eqb (x .two) i)) (l .ties .links) ≡ those (λ x. not (linkGone k s₀ a i (k .actors) x)) (l .ties .links)) (w₀ .id) (links-stay k s₀ l₀ (w₀ .good) r₀ a (going-alive w₀)))
+      (subst (λ (i : ℕ). those (λ m. not (eqb (m .target) i || eqb (m .watcher) i)) (l .ties .monitors) ≡ those (λ m. not (eqb (m .watcher) i)) (those (λ m. not (eyeGone s₀ a (k .monitors) m)) (l .ties .monitors))) (w₀ .id) (eyes-stay k s₀ l₀ (w₀ .good) r₀ a (going-alive w₀)))
+      (subst (λ (i : ℕ). Exact (l .ties .worn ++ wornBy 128 (map (λ m. m .id) (those (λ m. eqb (m .target) i || eqb (m .watcher) i) (l .ties .monitors)))) (isWorn (leave f a WATCHER) (leave f a MONITOR-AGE))) (w₀ .id)
+      (eyes-worn k s₀ l₀ (w₀ .good) r₀ a (going-alive w₀) (leave f a) (v .1 ∙ ages-left) (λ e. ap (λ (c : List ℕ). getD c e 0) (v .0) ∙ watchers-left e)))
+      a₄
+
+-- THE THEOREM of exit, and the reckoning
+pub exit-agrees : (reason : ℕ) (k : Caps) (s : State) (l : Ledger) → Good k s → Agrees k l s →
+    Agrees k (entered (record { call = exit reason; answer = sayEnded (exitRule reason k s .ans) }) l) (exitRule reason k s .state)
+unfolding exitRule entered done
+exit-agrees reason k s l g r =
+    let a = runner s - 1 in
+    split (eqb (runner s) 0) (λ q. rw q r)
+    (λ q. split (ltb 65535 reason) (λ p. rw (q, p) r)
+    (λ p. let run : runner s ≡ suc a = omega (arith, eqb-false (runner s) 0 q) in
+    let t = farewell k a (runnerId s) reason s in
+    rw (q, p) (subst (λ (i : ℕ). Agrees k (departed i reason (t .sent) l) (leave (dropped k a (t .state)) a)) (sym (running-is k s g l r q)) (departed-agrees k s l g r a reason run))))
+
+-- "sent + lost": every notice of the reckoning was sent or lost
+pub exit-counts : (reason : ℕ) (k : Caps) (s : State) (l : Ledger) → Good k s → Agrees k l s → eqb (runner s) 0 ≡ false → reason ≤ 65535 →
+    exitRule reason k s .ans .sent + exitRule reason k s .ans .lost ≡ length (notices l (l .people .running) reason)
+unfolding exitRule
+exit-counts reason k s l g r q h =
+    let a = runner s - 1 in
+    let run : runner s ≡ suc a = omega (arith, eqb-false (runner s) 0 q) in
+    rw (q, le-ltb 65535 reason h) (farewell-along k s l g r a reason run .count ∙ ap (λ (i : ℕ). length (notices l i reason)) (sym (running-is k s g l r q)))

@@ -1,0 +1,325 @@
+-- The calls that say who runs keep a sound runtime sound. Assumes nothing.
+use Prim.Native.Nat.{ℕ, suc, _+_, _-_, _≤_, _<_}
+use native.Mathlib.Omega.{arith}
+use mathlib.Core.Path.{_≡_, refl, sym, _∙_}
+use mathlib.Core.Bool.{false, not}
+use mathlib.Core.List.{List}
+use mir.Val.{boolByte}
+use lib.ListN.{length, getD, set, take}
+use lib.Seq.{getD-set-same, getD-set-other, getD-take, length-take-le}
+use lib.Dec.{T, eqb, ltb, lit<}
+use borrow.Author.Tests.{eqb-true, eqb-false, eq-eqb, ne-eqb, ltb-true, ltb-false}
+use Rattle.pools.proofs.BoolLaws.{split, flag-pos}
+use Rattle.pools.specs.Bits.{free}
+use Rattle.pools.specs.Slot.{ageOf, slotOf, usable}
+use Rattle.pools.proofs.PoolLaws.{lowest-at}
+use Rattle.pools.proofs.ListLaws.{occurs-pos}
+use Rattle.pools.proofs.SlotLaws.{of-usable}
+use Rattle.tables.specs.declared.Caps.{Caps}
+use Rattle.tables.specs.Columns.{AGE, DEADLINE, HAND, MAIL-DATA, MAIL-FREE, MAIL-OWNER, PRIORITY, QUEUE, QUEUED, REASON, RUNNING, STATE, WANT-CLASS, WANT-SENDER, WANT-TAG}
+use Rattle.tables.specs.State.{State, at, head, with-col, poke, size}
+use Rattle.tables.specs.Action.{push, pull}
+use Rattle.tables.proofs.ActionLaws.{sized-poke, sized-pull, sized-push}
+use Rattle.rules.specs.Rule.{both, eq, Holds, imp, is}
+use Rattle.rules.specs.Terms.{FREE, OLDEST, RUNNABLE, RUNS, WAITS, alive, awaits, runner}
+use Rattle.rules.specs.Sound.{actorRule, endsRule, idleRule, pairRule, runRule, senderRule, waitRule}
+use Rattle.rules.specs.Actions.{halt, ready, unwait, wake}
+use Rattle.rules.specs.Calls.{firstHead, nextRule, reportRule, run, shownRule, slotFor, spawnRule, yieldRule}
+use Rattle.rules.specs.Run.{showRule}
+use Rattle.rules.proofs.Good.{Good}
+use Rattle.rules.proofs.ColumnLaws.{Listed, Once, alive-grows, alive-same, each-set, listed-at, listed-joins, listed-leaves, listed-room, once-joins, once-leaves, other, set-zero, spare-same}
+use Rattle.rules.proofs.LedgerLaws.{runner-runs}
+
+module _ (k : Caps) (s : State) (g : Good k s) where
+  -- a word column has its size
+  pub col : (c : ℕ) → T (ltb c 42) → length (s c) ≡ size k c
+  col c t = g .sized .words c (lit< t)
+
+  -- a slot that is not runnable leaves room in the queue
+  pub queue-room : (a : ℕ) → a < k .actors → eqb (at s STATE a) RUNNABLE ≡ false → head s QUEUED < k .actors
+  queue-room a l u = listed-room (k .actors) (head s QUEUED) (s QUEUE) (g .head .1 .0) (col QUEUE tt) (g .queue) (λ b. eqb (at s STATE b) RUNNABLE) a l u (g .once)
+
+  -- the queue's count, one up
+  pub one-more : getD (set (s QUEUED) 0 (head s QUEUED + 1)) 0 0 ≡ head s QUEUED + 1
+  one-more = getD-set-same (s QUEUED) 0 (head s QUEUED + 1) 0 (omega (arith, col QUEUED tt))
+
+  -- slot a, which was not runnable, joins the queue
+  queue-up : (a : ℕ) → a < k .actors → eqb (at s STATE a) RUNNABLE ≡ false → Listed (k .actors) (head s QUEUED + 1) (set (s QUEUE) (head s QUEUED) a)
+  queue-up a l u = listed-joins (k .actors) (head s QUEUED) (s QUEUE) (g .head .1 .0) (col QUEUE tt) (g .queue) a l (queue-room a l u)
+
+  -- and is then runnable
+  once-up : (a : ℕ) → a < k .actors → eqb (at s STATE a) RUNNABLE ≡ false
+      → Once (k .actors) (head s QUEUED + 1) (set (s QUEUE) (head s QUEUED) a) (λ b. eqb (getD (set (s STATE) a RUNNABLE) b 0) RUNNABLE)
+  once-up a l u =
+      once-joins (k .actors) (head s QUEUED) (s QUEUE) (g .head .1 .0) (col QUEUE tt) (g .queue) (λ b. eqb (at s STATE b) RUNNABLE) (λ b. eqb (getD (set (s STATE) a RUNNABLE) b 0) RUNNABLE) a (queue-room a l u) u
+      (rw (getD-set-same (s STATE) a RUNNABLE 0 (omega (arith, col STATE tt)))) (λ b n. rw (getD-set-other (s STATE) a b RUNNABLE 0 n)) (g .once)
+
+  -- a slot that does not wait now asks nothing of the filters
+  filters-still : (a v : ℕ) → a < k .actors → (v ≡ WAITS → ⊥) → (e : ℕ) → e < k .mails
+      → Holds (imp (both (is (not (free (s MAIL-FREE) e))) (eq (getD (set (s STATE) a v) (at s MAIL-OWNER e - 1) 0) WAITS)) (is (not (awaits s (at s MAIL-OWNER e - 1) (at s MAIL-DATA e - 1)))))
+  filters-still a v l n e h p =
+      split (eqb (at s MAIL-OWNER e - 1) a)
+      (λ q. absurd (n (sym (getD-set-same (s STATE) a v 0 (omega (arith, col STATE tt))) ∙ rw (eqb-true (at s MAIL-OWNER e - 1) a q) at (p .1))))
+      (λ q. g .filters e h (p .0, rw (other (s STATE) a v (at s MAIL-OWNER e - 1) q) at (p .1)))
+
+-- "A waiting actor becomes runnable": sound as before
+pub wake-keeps : (k : Caps) (s : State) (a reason : ℕ) → Good k s → a < k .actors → at s STATE a ≡ WAITS → reason ≤ 2 → Good k (wake s a reason)
+unfolding ready unwait push poke with-col pairRule
+wake-keeps k s a reason g l u r =
+    let m = queue-room k s g a l (rw u) in
+    let w : alive (set (s STATE) a RUNNABLE) ≡ alive (s STATE) = alive-same (s STATE) a RUNNABLE (λ e. omega (arith, u)) (λ e. omega arith) in
+    let is : getD (set (s STATE) a RUNNABLE) a 0 ≡ RUNNABLE = getD-set-same (s STATE) a RUNNABLE 0 (omega (arith, col k s g STATE tt)) in
+    let why : getD (set (s REASON) a reason) a 0 ≡ reason = getD-set-same (s REASON) a reason 0 (omega (arith, col k s g REASON tt)) in
+    record {
+      range = g .range;
+      sized = sized-push k _ QUEUE QUEUED a (sized-poke k _ REASON a reason (sized-poke k _ STATE a RUNNABLE (sized-poke k _ DEADLINE a 0 (sized-poke k _ WANT-TAG a 0 (sized-poke k _ WANT-CLASS a 0 (sized-poke k s WANT-SENDER a 0 (g .sized)))))));
+      caps = g .caps;
+      head = rw (one-more k s g) (g .head .0, (omega arith, g .head .1 .1));
+      spare = spare-same s (wake s a reason) (refl, refl, refl, refl, refl, refl) (g .spare);
+      mailBits = g .mailBits;
+      dataBits = g .dataBits;
+      actors = λ b h. each-set (λ b. Holds (actorRule k (wake s a reason) b)) a b
+          (rw (is, why) ((omega arith, (g .actors a l .0 .1 .0, r)), ((g .actors a l .1 .0 .0, λ e. absurd (omega (arith, u, g .actors a l .1 .0 .1 e))), g .actors a l .1 .1)))
+          (λ q. rw (other (s STATE) a RUNNABLE b q, other (s REASON) a reason b q) (g .actors b h));
+      idle = λ b h. each-set (λ b. Holds (idleRule (wake s a reason) b)) a b
+          (rw (is, set-zero (s WANT-SENDER) a, set-zero (s WANT-CLASS) a, set-zero (s WANT-TAG) a, set-zero (s DEADLINE) a)
+          (λ e. absurd (omega arith), (λ e. absurd (e refl), λ e. ((refl, refl), (refl, refl)))))
+          (λ q. rw (other (s STATE) a RUNNABLE b q, other (s REASON) a reason b q, other (s WANT-SENDER) a 0 b q, other (s WANT-CLASS) a 0 b q, other (s WANT-TAG) a 0 b q, other (s DEADLINE) a 0 b q) (g .idle b h));
+      waits = λ b h. each-set (λ b. Holds (waitRule (wake s a reason) b)) a b
+          (rw (set-zero (s WANT-SENDER) a, set-zero (s WANT-CLASS) a, set-zero (s WANT-TAG) a, set-zero (s DEADLINE) a)
+          ((omega arith, omega arith), ((omega arith, λ e. absurd (omega arith)), λ e. absurd (e refl))))
+          (λ q. rw (other (s WANT-SENDER) a 0 b q, other (s WANT-CLASS) a 0 b q, other (s WANT-TAG) a 0 b q, other (s DEADLINE) a 0 b q) (g .waits b h));
+      runs = λ b h. each-set (λ b. Holds (runRule (wake s a reason) b)) a b
+          (rw is (rw u at (g .runs a l)))
+          (λ q. rw (other (s STATE) a RUNNABLE b q) (g .runs b h));
+      queue = rw (one-more k s g) (queue-up k s g a l (rw u));
+      once = rw (one-more k s g) (once-up k s g a l (rw u));
+      mails = rw w (g .mails);
+      arrivals = g .arrivals;
+      arrived = g .arrived;
+      filters = λ e h p. split (eqb (at s MAIL-OWNER e - 1) a)
+          (λ q. absurd (let z : getD (set (s STATE) a RUNNABLE) a 0 ≡ WAITS = rw (eqb-true (at s MAIL-OWNER e - 1) a q) at (p .1) in omega (arith, is)))
+          (λ q. rw (other (s WANT-SENDER) a 0 (at s MAIL-OWNER e - 1) q, other (s WANT-CLASS) a 0 (at s MAIL-OWNER e - 1) q, other (s WANT-TAG) a 0 (at s MAIL-OWNER e - 1) q)
+          (g .filters e h (p .0, rw (other (s STATE) a RUNNABLE (at s MAIL-OWNER e - 1) q) at (p .1))));
+      datas = g .datas;
+      held = g .held;
+      links = rw w (g .links);
+      pairs = g .pairs;
+      monitors = rw w (g .monitors);
+      timers = rw w (g .timers);
+    }
+
+-- ---- spawn
+-- the ends of a link or monitor live on once slot a is alive
+ends-grow : (st : List ℕ) (a v one two : ℕ) → (v ≡ 0 → ⊥) → Holds (endsRule st one two) → Holds (endsRule (set st a v) one two)
+ends-grow st a v one two w h = ((h .0 .0, alive-grows st a v (one - 1) w (h .0 .1)), ((h .1 .0 .0, alive-grows st a v (two - 1) w (h .1 .0 .1)), h .1 .1))
+
+-- a sender is of an age that its slot has reached, also once slot a is older
+sender-later : (ages : List ℕ) (a class sender : ℕ) → a < length ages → Holds (senderRule ages class sender) → Holds (senderRule (set ages a (getD ages a 0 + 1)) class sender)
+sender-later ages a class sender l h = (
+  h .0,
+  λ d. (
+    h .1 d .0,
+    split (eqb (slotOf 64 sender) a)
+        (λ q. let r : slotOf 64 sender ≡ a = eqb-true (slotOf 64 sender) a q in
+        let c : ageOf 64 sender ≤ getD ages a 0 = rw r at (h .1 d .1) in
+        rw (r, getD-set-same ages a (getD ages a 0 + 1) 0 l) (omega arith))
+        (λ q. rw (other ages a (getD ages a 0 + 1) (slotOf 64 sender) q) (h .1 d .1)),
+  ),
+)
+
+-- a slot whose use begins, at the tail of its level
+born-keeps : (k : Caps) (s : State) (a priority : ℕ) → Good k s → a < k .actors → at s STATE a ≡ FREE → at s AGE a < OLDEST → priority ≤ 3
+    → Good k (ready (poke (poke s AGE a (at s AGE a + 1)) PRIORITY a priority) a 0)
+unfolding ready push poke with-col pairRule
+born-keeps k s a priority g l u o r =
+    let t : State = ready (poke (poke s AGE a (at s AGE a + 1)) PRIORITY a priority) a 0 in
+    let m = queue-room k s g a l (rw u) in
+    let y : RUNNABLE ≡ 0 → ⊥ = λ e. omega arith in
+    let is : getD (set (s STATE) a RUNNABLE) a 0 ≡ RUNNABLE = getD-set-same (s STATE) a RUNNABLE 0 (omega (arith, col k s g STATE tt)) in
+    let why : getD (set (s REASON) a 0) a 0 ≡ 0 = set-zero (s REASON) a in
+    let age : getD (set (s AGE) a (at s AGE a + 1)) a 0 ≡ at s AGE a + 1 = getD-set-same (s AGE) a (at s AGE a + 1) 0 (omega (arith, col k s g AGE tt)) in
+    let level : getD (set (s PRIORITY) a priority) a 0 ≡ priority = getD-set-same (s PRIORITY) a priority 0 (omega (arith, col k s g PRIORITY tt)) in
+    record {
+      range = g .range;
+      sized = sized-push k _ QUEUE QUEUED a (sized-poke k _ REASON a 0 (sized-poke k _ STATE a RUNNABLE (sized-poke k _ PRIORITY a priority (sized-poke k s AGE a (at s AGE a + 1) (g .sized)))));
+      caps = g .caps;
+      head = rw (one-more k s g) (g .head .0, (omega arith, g .head .1 .1));
+      spare = spare-same s t (refl, refl, refl, refl, refl, refl) (g .spare);
+      mailBits = g .mailBits;
+      dataBits = g .dataBits;
+      actors = λ b h. each-set (λ b. Holds (actorRule k t b)) a b
+          (rw (is, why, age, level) ((omega arith, (r, omega arith)), ((omega arith, λ e. absurd (omega arith)), g .actors a l .1 .1)))
+          (λ q. rw (other (s STATE) a RUNNABLE b q, other (s REASON) a 0 b q, other (s AGE) a (at s AGE a + 1) b q, other (s PRIORITY) a priority b q) (g .actors b h));
+      idle = λ b h. each-set (λ b. Holds (idleRule t b)) a b
+          (rw is (λ e. absurd (omega arith), (λ e. absurd (e refl), λ e. g .idle a l .1 .1 (λ z. omega (arith, u)))))
+          (λ q. rw (other (s STATE) a RUNNABLE b q, other (s REASON) a 0 b q, other (s PRIORITY) a priority b q) (g .idle b h));
+      waits = g .waits;
+      runs = λ b h. each-set (λ b. Holds (runRule t b)) a b
+          (rw is (rw u at (g .runs a l)))
+          (λ q. rw (other (s STATE) a RUNNABLE b q) (g .runs b h));
+      queue = rw (one-more k s g) (queue-up k s g a l (rw u));
+      once = rw (one-more k s g) (once-up k s g a l (rw u));
+      mails = λ e h. (g .mails e h .0, λ p. let c = g .mails e h .1 p in ((c .0 .0, alive-grows (s STATE) a RUNNABLE (at s MAIL-OWNER e - 1) y (c .0 .1)), c .1));
+      arrivals = g .arrivals;
+      arrived = g .arrived;
+      filters = filters-still k s g a RUNNABLE l (λ e. omega arith);
+      datas = λ d h. (g .datas d h .0, λ p. let c = g .datas d h .1 p in (c .0, (sender-later (s AGE) a _ _ (omega (arith, col k s g AGE tt)) (c .1 .0), c .1 .1)));
+      held = g .held;
+      links = λ e h. (g .links e h .0, λ p. ends-grow (s STATE) a RUNNABLE _ _ y (g .links e h .1 p));
+      pairs = g .pairs;
+      monitors = λ i h. (g .monitors i h .0, (g .monitors i h .1 .0, λ p. ends-grow (s STATE) a RUNNABLE _ _ y (g .monitors i h .1 .1 p)));
+      timers = λ i h. (g .timers i h .0, (g .timers i h .1 .0, λ p. let c = g .timers i h .1 .1 p in (alive-grows (s STATE) a RUNNABLE _ y (c .0), c .1)));
+    }
+
+-- the slot that a spawn takes, where there is one: free and not worn
+pub slot-found : (k : Caps) (s : State) → slotFor k s < k .actors → (at s STATE (slotFor k s) ≡ FREE) × (at s AGE (slotFor k s) < OLDEST)
+slot-found k s l = of-usable OLDEST (s STATE) (s AGE) (slotFor k s) (lowest-at (usable OLDEST (s STATE) (s AGE)) (k .actors) l)
+
+-- "Spawn takes a priority and puts the actor at the tail of its level": sound as before
+pub spawn-keeps : (priority : ℕ) (k : Caps) (s : State) → Good k s → Good k (spawnRule priority k s .state)
+unfolding spawnRule
+spawn-keeps priority k s g =
+    split (ltb 3 priority) (λ q. rw q g)
+    (λ q. split (ltb (slotFor k s) (k .actors))
+    (λ r. let l = ltb-true (slotFor k s) (k .actors) r in
+    let f = slot-found k s l in
+    rw (q, r) (born-keeps k s (slotFor k s) priority g l (f .0) (f .1) (ltb-false 3 priority q)))
+    (λ r. rw (q, r) g))
+
+-- ---- yield
+-- the running actor of slot a, at the tail of its level
+rest-keeps : (k : Caps) (s : State) (a : ℕ) → Good k s → a < k .actors → runner s ≡ suc a → at s STATE a ≡ RUNS → Good k (ready (halt s) a 0)
+unfolding ready push poke with-col pairRule
+rest-keeps k s a g l c u =
+    let t : State = ready (halt s) a 0 in
+    let m = queue-room k s g a l (rw u) in
+    let w : alive (set (s STATE) a RUNNABLE) ≡ alive (s STATE) = alive-same (s STATE) a RUNNABLE (λ e. omega (arith, u)) (λ e. omega arith) in
+    let is : getD (set (s STATE) a RUNNABLE) a 0 ≡ RUNNABLE = getD-set-same (s STATE) a RUNNABLE 0 (omega (arith, col k s g STATE tt)) in
+    let none : getD (set (s RUNNING) 0 0) 0 0 ≡ 0 = set-zero (s RUNNING) 0 in
+    record {
+      range = g .range;
+      sized = sized-push k _ QUEUE QUEUED a (sized-poke k _ REASON a 0 (sized-poke k _ STATE a RUNNABLE (sized-poke k s RUNNING 0 0 (g .sized))));
+      caps = g .caps;
+      head = rw (one-more k s g, none) ((g .head .0 .0, omega arith), (omega arith, g .head .1 .1));
+      spare = spare-same s t (refl, refl, refl, refl, refl, refl) (g .spare);
+      mailBits = g .mailBits;
+      dataBits = g .dataBits;
+      actors = λ b h. each-set (λ b. Holds (actorRule k t b)) a b
+          (rw (is, set-zero (s REASON) a) ((omega arith, (g .actors a l .0 .1 .0, omega arith)), ((g .actors a l .1 .0 .0, λ e. absurd (omega (arith, u, g .actors a l .1 .0 .1 e))), g .actors a l .1 .1)))
+          (λ q. rw (other (s STATE) a RUNNABLE b q, other (s REASON) a 0 b q) (g .actors b h));
+      idle = λ b h. each-set (λ b. Holds (idleRule t b)) a b
+          (rw is (λ e. absurd (omega arith), (λ e. absurd (e refl), λ e. g .idle a l .1 .1 (λ z. omega (arith, u)))))
+          (λ q. rw (other (s STATE) a RUNNABLE b q, other (s REASON) a 0 b q) (g .idle b h));
+      waits = g .waits;
+      runs = λ b h. rw (none, ne-eqb 0 (suc b) (λ e. omega arith)) (each-set (λ b. boolByte (eqb (getD (set (s STATE) a RUNNABLE) b 0) RUNS) ≡ 0) a b
+          (rw is)
+          (λ q. rw (other (s STATE) a RUNNABLE b q) (g .runs b h ∙ rw (c, ne-eqb (suc a) (suc b) (λ e. eqb-false b a q (omega arith))))));
+      queue = rw (one-more k s g) (queue-up k s g a l (rw u));
+      once = rw (one-more k s g) (once-up k s g a l (rw u));
+      mails = rw w (g .mails);
+      arrivals = g .arrivals;
+      arrived = g .arrived;
+      filters = filters-still k s g a RUNNABLE l (λ e. omega arith);
+      datas = g .datas;
+      held = g .held;
+      links = rw w (g .links);
+      pairs = g .pairs;
+      monitors = rw w (g .monitors);
+      timers = rw w (g .timers);
+    }
+
+-- "Yield puts the running actor at the tail of its level": sound as before
+pub yield-keeps : (k : Caps) (s : State) → Good k s → Good k (yieldRule k s .state)
+unfolding yieldRule
+yield-keeps k s g =
+    split (eqb (runner s) 0) (λ q. rw q g)
+    (λ q. let p = runner-runs k s g q in
+    rw q (rest-keeps k s (runner s - 1) g (p .0) (omega (arith, eqb-false (runner s) 0 q)) (p .1)))
+
+-- ---- next
+-- who stands in the queue is a runnable actor
+pub queue-at : (k : Caps) (s : State) → Good k s → (j : ℕ) → j < head s QUEUED → (at s QUEUE j < k .actors) × (at s STATE (at s QUEUE j) ≡ RUNNABLE)
+queue-at k s g j h =
+    let l : at s QUEUE j < k .actors = listed-at (k .actors) (head s QUEUED) (s QUEUE) (g .head .1 .0) (col k s g QUEUE tt) (g .queue) j h in
+    let n = length-take-le (head s QUEUED) (s QUEUE) (omega (arith, g .head .1 .0, col k s g QUEUE tt)) in
+    let o = occurs-pos (at s QUEUE j) (take (head s QUEUED) (s QUEUE)) j (omega arith) (getD-take (head s QUEUED) (s QUEUE) j 0 h) in
+    (l, eqb-true (at s STATE (at s QUEUE j)) RUNNABLE (flag-pos _ (omega (arith, o, g .once (at s QUEUE j) l))))
+
+-- the actor at place j of the queue runs
+run-keeps : (k : Caps) (s : State) (a j : ℕ) → Good k s → at s QUEUE j ≡ a → j < head s QUEUED → runner s ≡ 0 → Good k (run s a j)
+unfolding run pull poke with-col pairRule
+run-keeps k s a j g e h c =
+    let l : a < k .actors = rw e at (queue-at k s g j h .0) in
+    let u : at s STATE a ≡ RUNNABLE = rw e at (queue-at k s g j h .1) in
+    let t : State = run s a j in
+    let w : alive (set (s STATE) a RUNS) ≡ alive (s STATE) = alive-same (s STATE) a RUNS (λ e. omega (arith, u)) (λ e. omega arith) in
+    let is : getD (set (s STATE) a RUNS) a 0 ≡ RUNS = getD-set-same (s STATE) a RUNS 0 (omega (arith, col k s g STATE tt)) in
+    let one : getD (set (s RUNNING) 0 (suc a)) 0 0 ≡ suc a = getD-set-same (s RUNNING) 0 (suc a) 0 (omega (arith, col k s g RUNNING tt)) in
+    let less : getD (set (s QUEUED) 0 (head s QUEUED - 1)) 0 0 ≡ head s QUEUED - 1 = getD-set-same (s QUEUED) 0 (head s QUEUED - 1) 0 (omega (arith, col k s g QUEUED tt)) in
+    record {
+      range = g .range;
+      sized = sized-poke k _ RUNNING 0 (suc a) (sized-poke k _ REASON a 0 (sized-poke k _ STATE a RUNS (sized-pull k s QUEUE QUEUED j h (omega (arith, g .head .1 .0, col k s g QUEUE tt)) (g .sized))));
+      caps = g .caps;
+      head = rw (less, one) ((g .head .0 .0, l), (omega (arith, g .head .1 .0), g .head .1 .1));
+      spare = spare-same s t (refl, refl, refl, refl, refl, refl) (g .spare);
+      mailBits = g .mailBits;
+      dataBits = g .dataBits;
+      actors = λ b n. each-set (λ b. Holds (actorRule k t b)) a b
+          (rw (is, set-zero (s REASON) a) ((omega arith, (g .actors a l .0 .1 .0, omega arith)), ((g .actors a l .1 .0 .0, λ e. absurd (omega (arith, u, g .actors a l .1 .0 .1 e))), g .actors a l .1 .1)))
+          (λ q. rw (other (s STATE) a RUNS b q, other (s REASON) a 0 b q) (g .actors b n));
+      idle = λ b n. each-set (λ b. Holds (idleRule t b)) a b
+          (rw (is, set-zero (s REASON) a) (λ e. absurd (omega arith), (λ e. refl, λ e. g .idle a l .1 .1 (λ z. omega (arith, u)))))
+          (λ q. rw (other (s STATE) a RUNS b q, other (s REASON) a 0 b q) (g .idle b n));
+      waits = g .waits;
+      runs = λ b n. rw one (each-set (λ b. boolByte (eqb (getD (set (s STATE) a RUNS) b 0) RUNS) ≡ boolByte (eqb (suc a) (suc b))) a b
+          (rw (is, eq-eqb (suc a) (suc a) refl))
+          (λ q. rw (other (s STATE) a RUNS b q, ne-eqb (suc a) (suc b) (λ e. eqb-false b a q (omega arith))) (g .runs b n ∙ rw (c, ne-eqb 0 (suc b) (λ e. omega arith)))));
+      queue = rw less (listed-leaves (k .actors) (head s QUEUED) (s QUEUE) (g .head .1 .0) (col k s g QUEUE tt) (g .queue) j h);
+      once = rw less (once-leaves (k .actors) (head s QUEUED) (s QUEUE) (g .head .1 .0) (col k s g QUEUE tt) (g .queue) j h
+          (λ b. eqb (at s STATE b) RUNNABLE) (λ b. eqb (getD (set (s STATE) a RUNS) b 0) RUNNABLE) (rw (e, is)) (λ b n. rw (getD-set-other (s STATE) a b RUNS 0 (λ z. n (z ∙ sym e)))) (g .once));
+      mails = rw w (g .mails);
+      arrivals = g .arrivals;
+      arrived = g .arrived;
+      filters = filters-still k s g a RUNS l (λ e. omega arith);
+      datas = g .datas;
+      held = g .held;
+      links = rw w (g .links);
+      pairs = g .pairs;
+      monitors = rw w (g .monitors);
+      timers = rw w (g .timers);
+    }
+
+-- "Next takes the head of the first non-empty level": sound as before
+pub next-keeps : (k : Caps) (s : State) → Good k s → Good k (nextRule k s .state)
+unfolding nextRule
+next-keeps k s g =
+    split (eqb (runner s) 0)
+    (λ q. split (ltb (firstHead s 4) (head s QUEUED))
+    (λ p. rw (q, p) (run-keeps k s (at s QUEUE (firstHead s 4)) (firstHead s 4) g refl (ltb-true (firstHead s 4) (head s QUEUED) p) (eqb-true (runner s) 0 q)))
+    (λ p. rw (q, p) g))
+    (λ q. rw q g)
+
+-- ---- the calls that only look
+-- report
+pub report-keeps : (k : Caps) (s : State) → Good k s → Good k (reportRule k s .state)
+unfolding reportRule
+report-keeps k s g = g
+
+-- showing leaves everything as it was
+pub show-still : (k : Caps) (s : State) → showRule k s .state ≡ s
+unfolding showRule
+show-still k s = split (eqb (runner s) 0) (λ q. rw q) (λ q. split (eqb (at s HAND (runner s - 1)) 0) (λ p. rw (q, p)) (λ p. rw (q, p)))
+
+-- and so does its second call
+pub shown-still : (k : Caps) (s : State) → shownRule k s .state ≡ s
+unfolding shownRule
+shown-still k s = split (eqb (runner s) 0) (λ q. rw q) (λ q. split (eqb (at s HAND (runner s - 1)) 0) (λ p. rw (q, p)) (λ p. rw (q, p)))
+
+-- show
+pub show-keeps : (k : Caps) (s : State) → Good k s → Good k (showRule k s .state)
+show-keeps k s g = rw (show-still k s) g
+
+-- shown
+pub shown-keeps : (k : Caps) (s : State) → Good k s → Good k (shownRule k s .state)
+shown-keeps k s g = rw (shown-still k s) g

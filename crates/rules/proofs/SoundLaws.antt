@@ -1,0 +1,53 @@
+-- What soundness gives to a proof that has it as a premise. Assumes nothing.
+use Prim.Native.Nat.{ℕ, _≤_, _<_}
+use native.Mathlib.Omega.{arith}
+use mathlib.Core.Path.{_≡_}
+use mathlib.Core.Bool.{Bool, _&&_}
+use mathlib.Core.List.{List}
+use lib.ListN.{length}
+use lib.Dec.{leb}
+use borrow.Author.Tests.{leb-true, le-leb}
+use Rattle.tables.specs.declared.Caps.{Caps}
+use Rattle.tables.specs.Columns.{PAYLOAD}
+use Rattle.tables.specs.State.{State, size, needed, neededP, view, InRange, Room}
+use Rattle.tables.proofs.ViewLaws.{view-full, full-view, view-fullP, full-viewP}
+use Rattle.rules.specs.Rule.{Rule, both, each, eq, test, Holds}
+use Rattle.rules.specs.Sound.{rangeRule, sizeRule, fitRule, plainRules, lateRules, soundAt, Ready}
+use Rattle.rules.proofs.RuleLaws.{and-same, same-test}
+
+-- every column has its size exactly where both buffers are long enough
+pub size-test : (k : Caps) (w p : List ℕ) → test (sizeRule k (view k w p)) ≡ leb (needed k) (length w) && leb (neededP k) (length p)
+unfolding sizeRule
+size-test k w p =
+    and-same
+    (same-test (each 42 (λ c. eq (length (view k w p c)) (size k c))) (leb (needed k) (length w)) (λ h. le-leb (needed k) (length w) (full-view k w p h)) (λ e. view-full k w p (leb-true (needed k) (length w) e)))
+    (same-test (eq (length (view k w p PAYLOAD)) (neededP k)) (leb (neededP k) (length p)) (λ h. le-leb (neededP k) (length p) (full-viewP k w p h)) (λ e. view-fullP k w p (leb-true (neededP k) (length p) e)))
+
+-- the ranges, as a record
+pub range-of : (k : Caps) → Holds (rangeRule k) → InRange k
+range-of k h = record {
+  someActors = h .0 .0 .0;
+  fewActors = h .0 .0 .1;
+  someMails = h .0 .1 .0;
+  fewMails = h .0 .1 .1;
+  someDatas = h .1 .0 .0;
+  fewDatas = h .1 .0 .1;
+  fewLinks = h .1 .1 .0;
+  fewMonitors = h .1 .1 .1 .0;
+  fewTimers = h .1 .1 .1 .1;
+}
+
+-- and back
+pub of-range : (k : Caps) → InRange k → Holds (rangeRule k)
+of-range k r =
+    (((r .someActors, r .fewActors), (r .someMails, r .fewMails)), ((r .someDatas, r .fewDatas), (r .fewLinks, (r .fewMonitors, r .fewTimers))))
+
+-- capacities in range and columns of their sizes are room
+pub room-of : (k : Caps) (w p : List ℕ) → Holds (fitRule k (view k w p)) → Room k w p
+unfolding sizeRule
+room-of k w p h = record { caps = range-of k (h .0); words = full-view k w p (h .1 .0); bytes = full-viewP k w p (h .1 .1) }
+
+-- a sound runtime in its buffers is what the functions inside ask for
+pub ready-of : (k : Caps) (w p : List ℕ) → Holds (soundAt k (view k w p)) → Ready k w p
+unfolding soundAt
+ready-of k w p h = record { room = room-of k w p (h .0); sound = h }
