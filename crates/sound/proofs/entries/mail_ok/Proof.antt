@@ -1,0 +1,18 @@
+-- `sound::entries::mail_ok` meets its contract. Assumes nothing.
+use borrow.Author.Needs.{needs}
+use Rattle.sound.proofs.entries.mail_ok.Statement.{statement}
+use Rattle.sound.proofs.entries.mail_ok.Tie as tie
+
+returns : tie.Need-returns
+returns c = cc
+
+pub mail-ok-spec : {M : Type 1} → statement M
+mail-ok-spec =
+    tie.close
+    (tie.spec
+    (λ c κs. search needs)
+    (λ c κs. search needs)
+    (λ c κs. search needs)
+    (λ c κs. search needs)
+    (λ c κs. search needs)
+    returns)

@@ -1,0 +1,20 @@
+-- `sound::entries::timer_ok` meets its contract. Assumes nothing.
+use borrow.Author.Needs.{needs}
+use Rattle.sound.proofs.entries.timer_ok.Statement.{statement}
+use Rattle.sound.proofs.entries.timer_ok.Tie as tie
+
+returns : tie.Need-returns
+returns c = cc
+
+pub timer-ok-spec : {M : Type 1} → statement M
+timer-ok-spec =
+    tie.close
+    (tie.spec
+    (λ c κs. search needs)
+    (λ c κs. search needs)
+    (λ c κs. search needs)
+    (λ c κs. search needs)
+    (λ c κs. search needs)
+    (λ c κs. search needs)
+    (λ c κs. search needs)
+    returns)

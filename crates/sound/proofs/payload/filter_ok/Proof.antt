@@ -1,0 +1,20 @@
+-- `sound::payload::filter_ok` meets its contract. Assumes nothing.
+use borrow.Author.Needs.{needs}
+use Rattle.sound.proofs.payload.filter_ok.Statement.{statement}
+use Rattle.sound.proofs.payload.filter_ok.Tie as tie
+
+returns : tie.Need-returns
+returns c = cc
+
+pub filter-ok-spec : {M : Type 1} → statement M
+filter-ok-spec =
+    tie.close
+    (tie.spec
+    (λ c κs. search needs)
+    (λ c κs. search needs)
+    (λ c κs. search needs)
+    (λ c κs. search needs)
+    (λ c κs. search needs)
+    (λ c κs. search needs)
+    (λ c κs. search needs)
+    returns)
