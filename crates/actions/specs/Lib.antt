@@ -1,0 +1,1 @@
+-- Definitions that the contracts cite: none beyond those of the crates below.

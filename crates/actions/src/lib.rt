@@ -1,0 +1,10 @@
+// The actions that the runtime's calls are made of, each as crate rules defines it.
+pub mod dropping;
+pub mod links;
+pub mod messages;
+pub mod monitors;
+pub mod queue;
+pub mod room;
+pub mod running;
+pub mod timers;
+pub mod times;

@@ -1,0 +1,49 @@
+// Timers.
+ghost use Prim.Native.Nat.{_≤_, _<_, _^_};
+ghost use Rattle.tables.specs.Columns.{CLOCK, INTERVAL, TIMER-AGE};
+ghost use Rattle.tables.specs.State.{at, head, view, Room, Left};
+ghost use Rattle.rules.specs.Calls.{arm, disarm, rearm};
+use tables::Caps;
+use tables::columns::CLOCK;
+use tables::columns::DUE;
+use tables::columns::INTERVAL;
+use tables::columns::TIMER_AGE;
+use tables::columns::TIMER_OWNER;
+use tables::words::get;
+use tables::words::put;
+
+// A use of timer slot i begins: it is slot a's, and due at a time. An interval of 0 is a one-shot's.
+pub fn arm(t: &mut [u64], p: &[u8], k: Caps, i: u64, a: u64, time: u64, interval: u64)
+    requires { ⌜ Room k (now t) (now p) × (at (view k (now t) (now p)) TIMER-AGE i < 2 ^ 32) × (a < 4096) ⌝ }
+    ensures { λ _. ⌜ Left k (arm (view k (now (t .entry)) (now (p .entry))) i a time interval) (now (t .exit)) (now (p .entry)) ⌝ }
+{
+    let age = get(t, p, k, TIMER_AGE, i);
+    put(t, p, k, TIMER_AGE, i, age + 1);
+    put(t, p, k, TIMER_OWNER, i, a + 1);
+    put(t, p, k, DUE, i, time);
+    put(t, p, k, INTERVAL, i, interval);
+}
+
+// The use of timer slot i ends.
+pub fn disarm(t: &mut [u64], p: &[u8], k: Caps, i: u64)
+    requires { ⌜ Room k (now t) (now p) ⌝ }
+    ensures { λ _. ⌜ Left k (disarm (view k (now (t .entry)) (now (p .entry))) i) (now (t .exit)) (now (p .entry)) ⌝ }
+{
+    put(t, p, k, TIMER_OWNER, i, 0);
+    put(t, p, k, DUE, i, 0);
+    put(t, p, k, INTERVAL, i, 0);
+}
+
+// Timer i fires: a one-shot ends, a periodic one is next due an interval from now.
+pub fn rearm(t: &mut [u64], p: &[u8], k: Caps, i: u64)
+    requires { ⌜ Room k (now t) (now p) × (head (view k (now t) (now p)) CLOCK ≤ 2 ^ 62) × (at (view k (now t) (now p)) INTERVAL i ≤ 2 ^ 62) ⌝ }
+    ensures { λ _. ⌜ Left k (rearm (view k (now (t .entry)) (now (p .entry))) i) (now (t .exit)) (now (p .entry)) ⌝ }
+{
+    let interval = get(t, p, k, INTERVAL, i);
+    if interval == 0 {
+        disarm(t, p, k, i);
+        return;
+    }
+    let clock = get(t, p, k, CLOCK, 0);
+    put(t, p, k, DUE, i, clock + interval);
+}
