@@ -1,0 +1,193 @@
+// Receive.
+ghost use mathlib.Core.Path.{_≡_};
+ghost use mathlib.Core.Bool.{false};
+ghost use Prim.Native.Nat.{ℕ, _<_, _≤_, _^_};
+ghost use Rattle.tables.specs.Columns.{ARRIVED, CLOCK};
+ghost use Rattle.tables.specs.State.{head, view, Room, Left};
+ghost use Rattle.rules.specs.Sound.{Ready};
+ghost use Rattle.rules.specs.Terms.{legal};
+ghost use Rattle.rules.specs.Calls.{await, badWait, dataOf, deadlineAt, handOver, noMessage, notAtAll, receiveBare, received, receiveRule};
+use actions::messages::delist;
+use actions::messages::header_at;
+use actions::messages::let_go;
+use actions::queue::data_of;
+use actions::queue::first_match;
+use actions::running::halt;
+use records::header::class_of;
+use records::header::tag_of;
+use rules::Received;
+use tables::Caps;
+use tables::columns::ARRIVED;
+use tables::columns::CLOCK;
+use tables::columns::DEADLINE;
+use tables::columns::HAND;
+use tables::columns::LENGTH;
+use tables::columns::RUNNING;
+use tables::columns::SENDER;
+use tables::columns::STATE;
+use tables::columns::WANT_CLASS;
+use tables::columns::WANT_SENDER;
+use tables::columns::WANT_TAG;
+use tables::words::get;
+use tables::words::put;
+
+// The word of a slot whose actor waits.
+const WAITS: u64 = 3;
+
+// The numbers of a filter that stand for any.
+const ANY_SENDER: u64 = 4_294_967_295;
+
+const ANY_CLASS: u64 = 15;
+
+const ANY_TAG: u64 = 134_217_727;
+
+// The longest wait, in milliseconds.
+const LONGEST: i64 = 2_147_483_647;
+
+// ---- what is asked
+// Can a filter have these numbers?
+fn legal(sender: u64, class: u64, tag: u64) -> bool
+    ensures { λ r. ⌜ r ≡ legal sender class tag ⌝ }
+{
+    (sender <= ANY_SENDER) & (((class <= 4) | (class == ANY_CLASS)) & (tag <= ANY_TAG))
+}
+
+// Is it no wait? -1 is one without end, 0 is none.
+fn bad_wait(wait: i64) -> bool
+    ensures { λ r. ⌜ r ≡ badWait wait ⌝ }
+{
+    if wait < 0 {
+        return wait != -1;
+    }
+    LONGEST < wait
+}
+
+fn not_at_all(wait: i64) -> bool
+    ensures { λ r. ⌜ r ≡ notAtAll wait ⌝ }
+{
+    wait == 0
+}
+
+// When a wait that begins now ends; 0 for one without end.
+fn deadline_at(clock: u64, wait: i64) -> u64
+    requires { ⌜ (clock ≤ 2 ^ 62) × (badWait wait ≡ false) ⌝ }
+    ensures { λ r. ⌜ r ≡ deadlineAt clock wait ⌝ }
+{
+    if wait < 0 {
+        return 0;
+    }
+    clock + 1000 * (wait as u64)
+}
+
+// ---- what is answered
+fn no_message(no: u64) -> Received
+    ensures { λ r. ⌜ r ≡ noMessage no ⌝ }
+{
+    Received {
+        no,
+        sender: 0,
+        class: 0,
+        tag: 0,
+        length: 0,
+    }
+}
+
+// The message of data entry d.
+fn message(t: &[u64], p: &[u8], k: Caps, d: u64) -> Received
+    requires { ⌜ Room k (now t) (now p) ⌝ }
+    ensures { λ r. ⌜ r ≡ received (view k (now (t .entry)) (now (p .entry))) d ⌝ }
+{
+    let header = header_at(t, p, k, d);
+    Received {
+        no: 0,
+        sender: get(t, p, k, SENDER, d),
+        class: class_of(header) as u64,
+        tag: tag_of(header) as u64,
+        length: get(t, p, k, LENGTH, d),
+    }
+}
+
+// ---- what is done
+// The j-th arrival goes from its mailbox to the hand of slot a.
+fn hand_over(t: &mut [u64], p: &[u8], k: Caps, a: u64, j: u64) -> Received
+    requires { ⌜ Room k (now t) (now p) × (j < head (view k (now t) (now p)) ARRIVED) × (head (view k (now t) (now p)) ARRIVED ≤ k .mails) × (dataOf (view k (now t) (now p)) j < 4096) ⌝ }
+    ensures { λ r. ⌜ (r ≡ received (view k (now (t .entry)) (now (p .entry))) (dataOf (view k (now (t .entry)) (now (p .entry))) j)) × Left k (handOver (view k (now (t .entry)) (now (p .entry))) a j) (now (t .exit)) (now (p .entry)) ⌝ }
+{
+    let d = data_of(t, p, k, j);
+    let answer = message(t, p, k, d);
+    delist(t, p, k, j);
+    put(t, p, k, HAND, a, d + 1);
+    answer
+}
+
+// The running actor, of slot a, waits.
+fn await_in(
+    t: &mut [u64],
+    p: &[u8],
+    k: Caps,
+    a: u64,
+    sender: u64,
+    class: u64,
+    tag: u64,
+    deadline: u64,
+)
+    requires { ⌜ Room k (now t) (now p) ⌝ }
+    ensures { λ _. ⌜ Left k (await (view k (now (t .entry)) (now (p .entry))) a sender class tag deadline) (now (t .exit)) (now (p .entry)) ⌝ }
+{
+    halt(t, p, k);
+    put(t, p, k, STATE, a, WAITS);
+    put(t, p, k, WANT_SENDER, a, sender);
+    put(t, p, k, WANT_CLASS, a, class);
+    put(t, p, k, WANT_TAG, a, tag);
+    put(t, p, k, DEADLINE, a, deadline);
+}
+
+// The first match for slot a, whose hand is empty; else it waits, or not. 5: there is none; 6: it waits.
+fn receive_bare(
+    t: &mut [u64],
+    p: &[u8],
+    k: Caps,
+    sender: u64,
+    class: u64,
+    tag: u64,
+    wait: i64,
+    a: u64,
+) -> Received
+    requires { ⌜ Room k (now t) (now p) × (a < 4096) × (head (view k (now t) (now p)) CLOCK ≤ 2 ^ 62) × (head (view k (now t) (now p)) ARRIVED ≤ k .mails) × ((j : ℕ) → dataOf (view k (now t) (now p)) j < 4096) × (badWait wait ≡ false) ⌝ }
+    ensures { λ r. ⌜ (r ≡ receiveBare sender class tag wait a (view k (now (t .entry)) (now (p .entry))) .ans) × Left k (receiveBare sender class tag wait a (view k (now (t .entry)) (now (p .entry))) .state) (now (t .exit)) (now (p .entry)) ⌝ }
+{
+    let j = first_match(t, p, k, a, sender, class, tag);
+    if j < get(t, p, k, ARRIVED, 0) {
+        return hand_over(t, p, k, a, j);
+    }
+    if not_at_all(wait) {
+        return no_message(5);
+    }
+    let deadline = deadline_at(get(t, p, k, CLOCK, 0), wait);
+    await_in(t, p, k, a, sender, class, tag, deadline);
+    no_message(6)
+}
+
+// The running actor takes a message. 4: nobody runs; 1: the filter or the wait is bad; 5: there is none; 6: it waits.
+pub fn receive_in(
+    t: &mut [u64],
+    p: &mut [u8],
+    k: Caps,
+    sender: u64,
+    class: u64,
+    tag: u64,
+    wait: i64,
+) -> Received
+    requires { ⌜ Ready k (now t) (now p) ⌝ }
+    ensures { λ r. ⌜ (r ≡ receiveRule sender class tag wait k (view k (now (t .entry)) (now (p .entry))) .ans) × Left k (receiveRule sender class tag wait k (view k (now (t .entry)) (now (p .entry))) .state) (now (t .exit)) (now (p .exit)) ⌝ }
+{
+    let r = get(t, p, k, RUNNING, 0);
+    if r == 0 {
+        return no_message(4);
+    }
+    if !legal(sender, class, tag) | bad_wait(wait) {
+        return no_message(1);
+    }
+    let_go(t, p, k, r - 1);
+    receive_bare(t, p, k, sender, class, tag, wait, r - 1)
+}

@@ -1,0 +1,40 @@
+-- What the functions inside advance and exit ask of the state. Assumes nothing.
+use Prim.Native.Nat.{ℕ, _^_, _≤_, _<_}
+use mathlib.Core.Path.{_≡_}
+use mathlib.Core.Bool.{true}
+use Rattle.tables.specs.declared.Caps.{Caps}
+use Rattle.tables.specs.Columns.{ARRIVED, CLOCK, INTERVAL, QUEUED, TIMER-AGE, TIMER-OWNER}
+use Rattle.tables.specs.State.{State, at, head}
+use Rattle.rules.specs.Terms.{OLDEST}
+use Rattle.rules.specs.Actions.{hasRoom}
+use Rattle.rules.proofs.Good as good
+use Rattle.rules.proofs.Clock.{Late}
+use Rattle.rules.proofs.ExitLaws as laws
+
+-- the queue and the arrivals can be counted on
+pub record Short (s : State) : Type 0 where
+  pub queued : head s QUEUED ≤ 4096
+  pub arrived : head s ARRIVED ≤ 4096
+
+-- timer i can fire
+pub record Fires (k : Caps) (s : State) (i : ℕ) : Type 0 where
+  pub room : hasRoom k s ≡ true
+  pub short : Short s
+  pub slot : i < 64
+  pub owned : 1 ≤ at s TIMER-OWNER i
+  pub owner : at s TIMER-OWNER i ≤ 64
+  pub age : at s TIMER-AGE i ≤ OLDEST
+  pub clock : head s CLOCK ≤ 2 ^ 62
+  pub interval : at s INTERVAL i ≤ 2 ^ 62
+
+-- a state that is sound at some earlier clock
+abbrev pub Raised : Caps → State → Type 0
+Raised k s = (c : ℕ) × Late k c s
+
+-- a sound state
+abbrev pub Good : Caps → State → Type 0
+Good = good.Good
+
+-- a sound state in which the actor of slot a, with the id me, is ending: its mailbox and its hand are empty
+abbrev pub Going : Caps → ℕ → ℕ → State → Type 0
+Going = laws.Going

@@ -1,0 +1,119 @@
+// Advance: the clock is raised, due timers fire, and the overdue wake.
+ghost use mathlib.Core.Path.{_≡_};
+ghost use mathlib.Core.Bool.{true};
+ghost use Prim.Native.Nat.{_<_};
+ghost use Rattle.records.specs.Header.{packed};
+ghost use Rattle.records.specs.Records.{tickBytes};
+ghost use Rattle.tables.specs.State.{view, Room, Left};
+ghost use Rattle.rules.specs.Sound.{Ready};
+ghost use Rattle.rules.specs.Actions.{hasRoom, post};
+ghost use Rattle.rules.specs.Calls.{fire, fired, fireAll, rouse, advanceRule};
+ghost use Rattle.endings.specs.Asked.{Short, Fires, Raised};
+use actions::messages::post;
+use actions::room::has_room;
+use actions::running::wake;
+use actions::timers::rearm;
+use actions::times::earliest;
+use records::header::pack;
+use records::tick::put_tick;
+use rules::Advanced;
+use tables::Caps;
+use tables::columns::CLOCK;
+use tables::columns::DEADLINE;
+use tables::columns::DUE;
+use tables::columns::TIMER_AGE;
+use tables::columns::TIMER_OWNER;
+use tables::words::get;
+use tables::words::put;
+
+// The class of a tick.
+const TICK: u32 = 3;
+
+// Why an actor becomes runnable whose deadline is past.
+const TIMEOUT: u64 = 2;
+
+// The most that one call adds to the clock, in microseconds.
+const LONGEST: u64 = 4_294_967_295;
+
+// The last time of the clock, 2^62.
+const CLOCK_END: u64 = 4_611_686_018_427_387_904;
+
+// ---- timers
+// The tick of a timer goes to slot a.
+fn send_tick(t: &mut [u64], p: &mut [u8], k: Caps, a: u64, id: u32)
+    requires { ⌜ Room k (now t) (now p) × (hasRoom k (view k (now t) (now p)) ≡ true) × Short (view k (now t) (now p)) × (a < 4096) ⌝ }
+    ensures { λ _. ⌜ Left k (post k (view k (now (t .entry)) (now (p .entry))) a 0 (packed 3 1 0) (tickBytes id)) (now (t .exit)) (now (p .exit)) ⌝ }
+{
+    let mut bytes = [0u8; 8];
+    put_tick(&mut bytes, 0, id);
+    post(t, p, k, a, 0, pack(TICK, 1, 0), &bytes);
+}
+
+// Timer i fires.
+fn fire(t: &mut [u64], p: &mut [u8], k: Caps, i: u64)
+    requires { ⌜ Room k (now t) (now p) × Fires k (view k (now t) (now p)) i ⌝ }
+    ensures { λ _. ⌜ Left k (fire k (view k (now (t .entry)) (now (p .entry))) i) (now (t .exit)) (now (p .exit)) ⌝ }
+{
+    let owner = get(t, p, k, TIMER_OWNER, i);
+    let age = get(t, p, k, TIMER_AGE, i);
+    rearm(t, p, k, i);
+    send_tick(t, p, k, owner - 1, (age * 64 + i) as u32);
+}
+
+// The due timers fire, by due time, equal ones by lower slot, while both message pools have room. How many did?
+fn fire_all(t: &mut [u64], p: &mut [u8], k: Caps) -> u64
+    requires { ⌜ Room k (now t) (now p) × Raised k (view k (now t) (now p)) ⌝ }
+    ensures { λ r. ⌜ (r ≡ fireAll k (k .timers) (fired 0 (view k (now (t .entry)) (now (p .entry)))) .count) × Left k (fireAll k (k .timers) (fired 0 (view k (now (t .entry)) (now (p .entry)))) .state) (now (t .exit)) (now (p .exit)) ⌝ }
+{
+    let clock = get(t, p, k, CLOCK, 0);
+    let n = k.timers as u64;
+    let mut count: u64 = 0;
+    while count < n {
+        let i = earliest(t, p, k, TIMER_OWNER, DUE, clock, n);
+        let roomy = has_room(t, p, k);
+        if !(!(i == 0) & roomy) {
+            return count;
+        }
+        fire(t, p, k, i - 1);
+        count += 1;
+    }
+    count
+}
+
+// ---- deadlines
+// The waiting actors whose deadline is at or before the clock become runnable, by deadline, then slot.
+fn rouse(t: &mut [u64], p: &[u8], k: Caps)
+    requires { ⌜ Room k (now t) (now p) × Raised k (view k (now t) (now p)) ⌝ }
+    ensures { λ _. ⌜ Left k (rouse k (k .actors) (view k (now (t .entry)) (now (p .entry)))) (now (t .exit)) (now (p .entry)) ⌝ }
+{
+    let clock = get(t, p, k, CLOCK, 0);
+    let n = k.actors as u64;
+    let mut left = n;
+    while 0 < left {
+        let a = earliest(t, p, k, DEADLINE, DEADLINE, clock, n);
+        if a == 0 {
+            return;
+        }
+        wake(t, p, k, a - 1, TIMEOUT);
+        left -= 1;
+    }
+}
+
+// ---- both
+// The clock is raised. 1: by too much, or past its end.
+pub fn advance_in(t: &mut [u64], p: &mut [u8], k: Caps, micros: u64) -> Advanced
+    requires { ⌜ Ready k (now t) (now p) ⌝ }
+    ensures { λ r. ⌜ (r ≡ advanceRule micros k (view k (now (t .entry)) (now (p .entry))) .ans) × Left k (advanceRule micros k (view k (now (t .entry)) (now (p .entry))) .state) (now (t .exit)) (now (p .exit)) ⌝ }
+{
+    if LONGEST < micros {
+        return Advanced { no: 1, fired: 0 };
+    }
+    let clock = get(t, p, k, CLOCK, 0) + micros;
+    if CLOCK_END < clock {
+        return Advanced { no: 1, fired: 0 };
+    }
+    put(t, p, k, CLOCK, 0, clock);
+    let fired = fire_all(t, p, k);
+    rouse(t, p, k);
+    Advanced { no: 0, fired }
+}

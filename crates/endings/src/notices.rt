@@ -1,0 +1,172 @@
+// Whom an actor that ends tells: its partners, and those who watch it.
+ghost use mathlib.Core.Path.{_≡_};
+ghost use mathlib.Core.Bool.{true};
+ghost use Prim.Native.Nat.{suc, _<_};
+ghost use Rattle.records.specs.Header.{packed};
+ghost use Rattle.records.specs.Records.{exitBytes};
+ghost use Rattle.tables.specs.Columns.{WATCHED};
+ghost use Rattle.tables.specs.State.{at, view, Room, Left};
+ghost use Rattle.rules.specs.Actions.{hasRoom, post};
+ghost use Rattle.rules.specs.Calls.{told, tell, cutLink, cutLinks, cutMonitor, cutMonitors};
+ghost use Rattle.endings.specs.Asked.{Short, Going};
+ghost use Rattle.endings.specs.Counted.{Few, Tells, toldOf};
+use actions::links::link_of;
+use actions::links::tie;
+use actions::messages::post;
+use actions::monitors::unwatch;
+use actions::room::has_room;
+use records::exit::put_exit;
+use records::header::pack;
+use tables::Caps;
+use tables::columns::MONITOR_AGE;
+use tables::columns::WATCHED;
+use tables::columns::WATCHER;
+use tables::words::get;
+
+// The class of an exit notice.
+const EXIT: u32 = 4;
+
+// How many notices were sent and lost so far.
+pub struct Count {
+    pub sent: u64,
+    pub lost: u64,
+}
+
+// The notice of an exit goes to slot a.
+fn send_exit(t: &mut [u64], p: &mut [u8], k: Caps, a: u64, me: u32, reason: u16, monitor: u32)
+    requires { ⌜ Room k (now t) (now p) × (hasRoom k (view k (now t) (now p)) ≡ true) × Short (view k (now t) (now p)) × (a < 4096) ⌝ }
+    ensures { λ _. ⌜ Left k (post k (view k (now (t .entry)) (now (p .entry))) a me (packed 4 1 0) (exitBytes me reason monitor)) (now (t .exit)) (now (p .exit)) ⌝ }
+{
+    let mut bytes = [0u8; 14];
+    put_exit(&mut bytes, 0, me, reason, monitor);
+    post(t, p, k, a, me as u64, pack(EXIT, 1, 0), &bytes);
+}
+
+// The same, if there is room; else it is lost.
+fn tell(
+    t: &mut [u64],
+    p: &mut [u8],
+    k: Caps,
+    n: Count,
+    a: u64,
+    me: u32,
+    reason: u16,
+    monitor: u32,
+) -> Count
+    requires { ⌜ Room k (now t) (now p) × Short (view k (now t) (now p)) × (a < 4096) × Few n 1000 ⌝ }
+    ensures { λ r. ⌜ Tells k (tell k (toldOf n (view k (now (t .entry)) (now (p .entry)))) a me reason monitor) r (now (t .exit)) (now (p .exit)) ⌝ }
+{
+    if has_room(t, p, k) {
+        send_exit(t, p, k, a, me, reason, monitor);
+        return Count {
+            sent: n.sent + 1,
+            lost: n.lost,
+        };
+    }
+    Count {
+        sent: n.sent,
+        lost: n.lost + 1,
+    }
+}
+
+// ---- links
+// The link of slot a with slot b ends, if there is one, and b is told.
+fn cut_link(
+    t: &mut [u64],
+    p: &mut [u8],
+    k: Caps,
+    n: Count,
+    a: u64,
+    me: u32,
+    reason: u16,
+    b: u64,
+) -> Count
+    requires { ⌜ Room k (now t) (now p) × Going k a me (view k (now t) (now p)) × (b < k .actors) × Few n 1000 ⌝ }
+    ensures { λ r. ⌜ Tells k (cutLink k a me reason b (toldOf n (view k (now (t .entry)) (now (p .entry))))) r (now (t .exit)) (now (p .exit)) ⌝ }
+{
+    let e = link_of(t, p, k, a + 1, b + 1);
+    if e < k.links as u64 {
+        tie(t, p, k, e, 0, 0);
+        return tell(t, p, k, n, b, me, reason, 0);
+    }
+    n
+}
+
+// All links of slot a end, by ascending partner slot.
+pub fn cut_links(t: &mut [u64], p: &mut [u8], k: Caps, a: u64, me: u32, reason: u16) -> Count
+    requires { ⌜ Room k (now t) (now p) × Going k a me (view k (now t) (now p)) ⌝ }
+    ensures { λ r. ⌜ Tells k (cutLinks k a me reason (k .actors) (told 0 0 (view k (now (t .entry)) (now (p .entry))))) r (now (t .exit)) (now (p .exit)) × Few r 64 ⌝ }
+{
+    let slots = k.actors as u64;
+    let mut n = Count { sent: 0, lost: 0 };
+    let mut b: u64 = 0;
+    while b < slots {
+        n = cut_link(t, p, k, n, a, me, reason, b);
+        b += 1;
+    }
+    n
+}
+
+// ---- monitors
+// The watcher of monitor i is told that slot a ends, and the monitor with it.
+fn cut_eye(
+    t: &mut [u64],
+    p: &mut [u8],
+    k: Caps,
+    n: Count,
+    a: u64,
+    me: u32,
+    reason: u16,
+    i: u64,
+) -> Count
+    requires { ⌜ Room k (now t) (now p) × Going k a me (view k (now t) (now p)) × (i < k .monitors) × (at (view k (now t) (now p)) WATCHED i ≡ suc a) × Few n 1000 ⌝ }
+    ensures { λ r. ⌜ Tells k (cutMonitor k a me reason i (toldOf n (view k (now (t .entry)) (now (p .entry))))) r (now (t .exit)) (now (p .exit)) ⌝ }
+{
+    let watcher = get(t, p, k, WATCHER, i);
+    let age = get(t, p, k, MONITOR_AGE, i);
+    unwatch(t, p, k, i);
+    tell(t, p, k, n, watcher - 1, me, reason, (age * 128 + i) as u32)
+}
+
+// The same, if monitor i is on slot a.
+fn cut_monitor(
+    t: &mut [u64],
+    p: &mut [u8],
+    k: Caps,
+    n: Count,
+    a: u64,
+    me: u32,
+    reason: u16,
+    i: u64,
+) -> Count
+    requires { ⌜ Room k (now t) (now p) × Going k a me (view k (now t) (now p)) × (i < k .monitors) × Few n 1000 ⌝ }
+    ensures { λ r. ⌜ Tells k (cutMonitor k a me reason i (toldOf n (view k (now (t .entry)) (now (p .entry))))) r (now (t .exit)) (now (p .exit)) ⌝ }
+{
+    if get(t, p, k, WATCHED, i) == a + 1 {
+        return cut_eye(t, p, k, n, a, me, reason, i);
+    }
+    n
+}
+
+// All monitors on slot a end, by ascending monitor slot.
+pub fn cut_monitors(
+    t: &mut [u64],
+    p: &mut [u8],
+    k: Caps,
+    n: Count,
+    a: u64,
+    me: u32,
+    reason: u16,
+) -> Count
+    requires { ⌜ Room k (now t) (now p) × Going k a me (view k (now t) (now p)) × Few n 64 ⌝ }
+    ensures { λ r. ⌜ Tells k (cutMonitors k a me reason (k .monitors) (toldOf n (view k (now (t .entry)) (now (p .entry))))) r (now (t .exit)) (now (p .exit)) ⌝ }
+{
+    let slots = k.monitors as u64;
+    let mut m = n;
+    let mut i: u64 = 0;
+    while i < slots {
+        m = cut_monitor(t, p, k, m, a, me, reason, i);
+        i += 1;
+    }
+    m
+}
