@@ -1,0 +1,80 @@
+// A small runtime in which there is one of everything.
+use runtime::host::fg_advance;
+use runtime::host::fg_every;
+use runtime::host::fg_exit;
+use runtime::host::fg_link;
+use runtime::host::fg_monitor;
+use runtime::host::fg_next;
+use runtime::host::fg_notify;
+use runtime::host::fg_receive;
+use runtime::host::fg_spawn;
+use runtime::host::fg_yield;
+use runtime::start::fg_start;
+
+const ANY_SENDER: u64 = 4_294_967_295;
+
+// The last tag that a notification may have.
+const LAST_TAG: u64 = 134_217_726;
+
+// A fresh runtime at 1,000 µs, and actor 64, which runs first.
+fn begun(t: &mut [u64], p: &mut [u8]) {
+    fg_start(t, p, 5, 5, 6, 3, 2, 2);
+    fg_advance(t, p, 1000);
+    fg_spawn(t, p, 0);
+}
+
+// The actors 65 to 68.
+fn joined(t: &mut [u64], p: &mut [u8]) {
+    fg_spawn(t, p, 1);
+    fg_spawn(t, p, 2);
+    fg_spawn(t, p, 2);
+    fg_spawn(t, p, 1);
+}
+
+// 64 waits until 6,000 µs for tag 9; 65 runs and watches 68.
+fn waited(t: &mut [u64], p: &mut [u8]) {
+    fg_next(t, p);
+    fg_receive(t, p, ANY_SENDER, 0, 9, 5);
+    fg_next(t, p);
+    fg_monitor(t, p, 68);
+}
+
+// 68 runs and ends; 65 runs again.
+fn ended(t: &mut [u64], p: &mut [u8]) {
+    fg_yield(t, p);
+    fg_next(t, p);
+    fg_exit(t, p, 3);
+    fg_next(t, p);
+}
+
+// 65: two links, a monitor, a timer.
+fn tied(t: &mut [u64], p: &mut [u8]) {
+    fg_link(t, p, 64);
+    fg_link(t, p, 66);
+    fg_monitor(t, p, 64);
+    fg_every(t, p, 2000);
+}
+
+// 65 has a message of its own in hand; 64 and 66 have one each in their mailboxes.
+fn told(t: &mut [u64], p: &mut [u8]) {
+    fg_notify(t, p, 65, 7, b"hello");
+    fg_receive(t, p, ANY_SENDER, 0, 7, 0);
+    fg_notify(t, p, 64, 7, b"abc");
+    fg_notify(t, p, 66, LAST_TAG, b"xy");
+}
+
+fn grown(t: &mut [u64], p: &mut [u8]) {
+    begun(t, p);
+    joined(t, p);
+    waited(t, p);
+    ended(t, p);
+}
+
+// Data entries: 0 a notice for slot 1, 1 in its hand, 2 for slot 0, 3 for slot 2, 4 a tick for slot 1, 5 free. The mailbox
+// entries 0 to 3 hold data 0, 2, 3 and 4; slots 2 and 3 are queued. The clock is at 3,000 µs.
+pub fn bring(t: &mut [u64], p: &mut [u8]) {
+    grown(t, p);
+    tied(t, p);
+    told(t, p);
+    fg_advance(t, p, 2000);
+}
