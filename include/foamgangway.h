@@ -1,0 +1,202 @@
+/*
+ * Foamgangway: the tables of a single-threaded, cooperative actor runtime.
+ *
+ * All state lies in two buffers that the caller lends to every call: a table of 64-bit words and a
+ * payload area of bytes. Both come first in every call, each as a pointer and a length (in words, in
+ * bytes). The runtime keeps no other state, allocates nothing and never blocks.
+ *
+ * No two slices of one call may overlap: table, payload area and, in fg_notify, the payload. That is
+ * the caller's duty; so is that every pointer is good for its length, and not null even where the
+ * length is 0.
+ *
+ * Every call but fg_start first tests that the buffers are sound and answers FG_UNSOUND if not. Tests
+ * go in the order FG_UNSOUND, FG_NOT_NOW, FG_MALFORMED, FG_UNKNOWN, FG_NO_ROOM. With these five, the
+ * refusals, nothing has changed and every other number answered is 0.
+ */
+#ifndef FOAMGANGWAY_H
+#define FOAMGANGWAY_H
+
+#include <stddef.h>
+#include <stdint.h>
+
+#ifdef __cplusplus
+extern "C" {
+#endif
+
+/* The number that every call answers, alone or as the field `no`. */
+enum fg_number {
+    FG_DONE = 0,      /* done */
+    FG_MALFORMED = 1, /* malformed argument */
+    FG_NO_ROOM = 2,   /* no room */
+    FG_UNKNOWN = 3,   /* no such actor, timer, monitor or link, or not the caller's */
+    FG_NOT_NOW = 4,   /* no actor is running, or, for fg_next, one is */
+    FG_NOTHING = 5,   /* receive with wait 0 found nothing; the hand is released */
+    FG_WAITING = 6,   /* receive: the caller now waits, its hand is released; next: idle */
+    FG_UNSOUND = 7    /* the buffers are not sound or too short */
+};
+
+/* Capacities: actors, mailbox entries and data entries from 1, the others from 0. */
+#define FG_MAX_ACTORS 64
+#define FG_MAX_MAILBOXES 256
+#define FG_MAX_DATA 256
+#define FG_MAX_LINKS 128
+#define FG_MAX_MONITORS 128
+#define FG_MAX_TIMERS 64
+
+/* An actor or timer id is age * 64 + slot, a monitor id age * 128 + slot; 0 is never an id. */
+#define FG_ACTOR_FACTOR 64
+#define FG_TIMER_FACTOR 64
+#define FG_MONITOR_FACTOR 128
+#define FG_MAX_AGE 33000000
+
+#define FG_MAX_PRIORITY 3                     /* 0 is first */
+#define FG_MAX_PAYLOAD 252                    /* bytes of a message */
+#define FG_ENTRY_BYTES 256                    /* bytes of a data entry: header and payload */
+#define FG_HEADER_BYTES 4                     /* bytes of a header */
+#define FG_MAX_TAG 134217726                  /* largest tag of a message */
+#define FG_MAX_CLOCK (UINT64_C(1) << 62)      /* microseconds */
+#define FG_MAX_STEP UINT64_C(4294967295)      /* microseconds: delays, intervals, advances */
+#define FG_MAX_WAIT INT64_C(2147483647)       /* milliseconds */
+
+/* A filter of fg_receive that takes any sender, class, tag. */
+#define FG_ANY_SENDER UINT64_C(4294967295)
+#define FG_ANY_CLASS 15
+#define FG_ANY_TAG 134217727
+
+/* Waits of fg_receive; a positive one is in milliseconds. */
+#define FG_WAIT_FOREVER (-1)
+#define FG_WAIT_NOT 0
+
+/* Classes of messages. */
+#define FG_CLASS_NOTIFY 0
+#define FG_CLASS_REQUEST 1
+#define FG_CLASS_REPLY 2
+#define FG_CLASS_TIMER 3
+#define FG_CLASS_EXIT 4
+
+/* Why an actor runs, as fg_next says. */
+#define FG_RUNS_READY 0   /* spawned or yielded */
+#define FG_RUNS_MESSAGE 1 /* a message that its filter matches has come */
+#define FG_RUNS_TIMEOUT 2 /* its wait is over */
+
+/* Exit reasons: 0 to 65531 are the application's. */
+#define FG_EXIT_NORMAL 65532
+#define FG_EXIT_CRASH 65533
+#define FG_EXIT_KILLED 65534
+#define FG_EXIT_OVERFLOW 65535
+#define FG_MAX_REASON 65535
+
+/* Bytes of the records in runtime messages. */
+#define FG_TICK_BYTES 8
+#define FG_EXIT_BYTES 14
+
+/* How long the two buffers must be; they may be longer, and what is past the needed part is never changed.
+ * As constants, for static arrays: */
+#define FG_WORDS(actors, mailboxes, data, links, monitors, timers) \
+    (24 + 10 * (actors) + 3 * (mailboxes) + 2 * (data) + 2 * (links) + 3 * (monitors) + 4 * (timers))
+#define FG_BYTES(data) (FG_ENTRY_BYTES * (data))
+
+/* And as functions. Words of the table for capacities in range: */
+static inline size_t fg_words_needed(uint64_t actors, uint64_t mailboxes, uint64_t data, uint64_t links,
+                                     uint64_t monitors, uint64_t timers)
+{
+    return (size_t)FG_WORDS(actors, mailboxes, data, links, monitors, timers);
+}
+
+/* Bytes of the payload area: */
+static inline size_t fg_bytes_needed(uint64_t data)
+{
+    return (size_t)FG_BYTES(data);
+}
+
+struct fg_made { uint64_t no, id; };
+struct fg_turn { uint64_t no, id, reason; int64_t sleep; };
+/* `class` is a word of C++, hence `class_`. */
+struct fg_received { uint64_t no, sender, class_, tag, length; };
+struct fg_place { uint64_t no, offset, length; };
+struct fg_ended { uint64_t no, sent, lost; };
+struct fg_advanced { uint64_t no, fired; };
+/* Free counts: actors, mailbox entries, data entries, links, monitors, timers. */
+struct fg_counts { uint64_t no, free[6]; };
+struct fg_tick_record { uint64_t no; uint32_t id; };
+struct fg_exit_record { uint64_t no; uint32_t actor; uint16_t reason; uint32_t monitor; };
+/* The letters of a word, `len` of them, no zero at the end. */
+struct fg_word { uint8_t bytes[8]; size_t len; };
+
+/* The two buffers, first in every call. */
+#define FG_BUFFERS uint64_t *t, size_t t_len, uint8_t *p, size_t p_len
+
+/* Starts over: every entry free, ages and clock 0. Needs nothing of the buffers but their lengths. */
+uint64_t fg_start(FG_BUFFERS, uint64_t actors, uint64_t mailboxes, uint64_t data, uint64_t links,
+                  uint64_t monitors, uint64_t timers);
+
+/* Makes an actor at the tail of its priority's queue and answers its id. Needs no running actor. */
+struct fg_made fg_spawn(FG_BUFFERS, uint64_t priority);
+
+/* Runs the head of the first queue that is not empty: its id and why it runs. With none runnable answers
+ * FG_WAITING and the microseconds to sleep, -1 where nothing is awaited. */
+struct fg_turn fg_next(FG_BUFFERS);
+
+/* Puts the running actor at the tail of its queue. */
+uint64_t fg_yield(FG_BUFFERS);
+
+/* Sends a message of 0 to 252 bytes to an actor, the caller included. */
+uint64_t fg_notify(FG_BUFFERS, uint64_t target, uint64_t tag, const uint8_t *payload, size_t payload_len);
+
+/* Releases the caller's hand, then takes the oldest message that the filter matches into it; without one the
+ * caller waits: -1 for ever, 0 not at all, else so many milliseconds. Woken, it calls fg_receive again. */
+struct fg_received fg_receive(FG_BUFFERS, uint64_t sender, uint64_t class_, uint64_t tag, int64_t wait);
+
+/* Where in the payload area the payload in hand lies; FG_UNKNOWN with nothing in hand. */
+struct fg_place fg_shown(FG_BUFFERS);
+
+/* Arms a timer that ticks once, after so many microseconds, and answers its id. */
+struct fg_made fg_after(FG_BUFFERS, uint64_t delay);
+
+/* Arms a timer that ticks every so many microseconds, from 1, and answers its id. */
+struct fg_made fg_every(FG_BUFFERS, uint64_t interval);
+
+/* Ends a timer of the caller; ticks already queued stay. */
+uint64_t fg_cancel(FG_BUFFERS, uint64_t timer);
+
+/* Links the caller and another actor: when one ends, the other is sent an exit notice. */
+uint64_t fg_link(FG_BUFFERS, uint64_t partner);
+
+/* Takes a link back, from either end. */
+uint64_t fg_unlink(FG_BUFFERS, uint64_t partner);
+
+/* Watches another actor: when it ends, the caller is sent an exit notice with the id answered here. */
+struct fg_made fg_monitor(FG_BUFFERS, uint64_t target);
+
+/* Takes a monitor of the caller back. */
+uint64_t fg_demonitor(FG_BUFFERS, uint64_t monitor);
+
+/* Ends the running actor; answers how many exit notices were sent and how many were lost for want of room. */
+struct fg_ended fg_exit(FG_BUFFERS, uint64_t reason);
+
+/* Moves the clock, fires due timers, then ends waits that are over. Needs no running actor. */
+struct fg_advanced fg_advance(FG_BUFFERS, uint64_t us);
+
+/* Answers how many entries of each pool are free. Needs no running actor. */
+struct fg_counts fg_report(FG_BUFFERS);
+
+/* Writes the record of a tick, 8 bytes; FG_MALFORMED where the slice is shorter. */
+uint64_t fg_write_tick(uint8_t *out, size_t len, uint32_t id);
+
+/* Reads the record of a tick; FG_MALFORMED unless size, length and kind are exactly a tick's. */
+struct fg_tick_record fg_read_tick(const uint8_t *bytes, size_t len);
+
+/* Writes the record of an exit notice, 14 bytes; FG_MALFORMED where the slice is shorter. */
+uint64_t fg_write_exit(uint8_t *out, size_t len, uint32_t actor, uint16_t reason, uint32_t monitor);
+
+/* Reads the record of an exit notice; `monitor` is 0 in the notice of a link. */
+struct fg_exit_record fg_read_exit(const uint8_t *bytes, size_t len);
+
+/* The word of an exit reason: app, normal, crash, killed or overflow. */
+struct fg_word fg_reason_word(uint16_t reason);
+
+#ifdef __cplusplus
+}
+#endif
+
+#endif

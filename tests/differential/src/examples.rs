@@ -1,0 +1,182 @@
+//! Document 01's bench examples, through the C boundary, with the answers that the document gives.
+
+use crate::call::{Answer, Call};
+use crate::compare::{make, Buffers, Difference};
+use crate::ffi;
+use model::limits::*;
+use model::{Advanced, Ended, ExitRead, Made, Model, Received, TickRead, Turn};
+use model::{DONE, MALFORMED, NOTHING, NO_ROOM, WAITING};
+
+/// A runtime that is led through an example.
+struct Bench {
+    name: &'static str,
+    step: u64,
+    buffers: Buffers,
+    model: Model,
+}
+
+type Checked = Result<(), Difference>;
+
+impl Bench {
+    /// From a payload area of 65,536 zero bytes and a long zero table.
+    fn start(name: &'static str, caps: Capacities) -> Result<Self, Difference> {
+        let buffers = Buffers { words: vec![0; 4_096], bytes: vec![0; 65_536] };
+        let mut bench = Bench { name, step: 0, buffers, model: Model::unsound() };
+        bench.expect(Call::Start(caps), Answer::Number(DONE))?;
+        Ok(bench)
+    }
+
+    /// With so many actors of priority 1, of which the first runs.
+    fn running(name: &'static str, caps: Capacities, actors: u64) -> Result<Self, Difference> {
+        let mut bench = Bench::start(name, caps)?;
+        for i in 0..actors {
+            bench.expect(Call::Spawn(1), made(64 + i))?;
+        }
+        bench.expect(Call::Next, turn(64))?;
+        Ok(bench)
+    }
+
+    fn wrong(&self, call: String, what: String) -> Difference {
+        Difference { number: self.step, call: format!("{call} of the example \"{}\"", self.name), what }
+    }
+
+    /// Library and model agree, and both give the document's answer.
+    fn expect(&mut self, call: Call, answer: Answer) -> Checked {
+        let lengths = (self.buffers.words.len(), self.buffers.bytes.len());
+        let given = make(&call, &mut self.buffers, lengths, &mut self.model)
+            .map_err(|what| self.wrong(format!("{call:?}"), what))?;
+        self.step += 1;
+        if given == answer {
+            return Ok(());
+        }
+        Err(self.wrong(format!("{call:?}"), format!("library:  {given:?}\ndocument: {answer:?}")))
+    }
+
+    /// The payload in hand, by the place that the library gives.
+    fn in_hand(&mut self) -> Vec<u8> {
+        let place = ffi::shown(&mut self.buffers.words, &mut self.buffers.bytes);
+        self.buffers.bytes[place.offset as usize..][..place.length as usize].to_vec()
+    }
+
+    fn same<T: PartialEq + std::fmt::Debug>(&self, what: &str, library: T, document: T) -> Checked {
+        if library == document {
+            return Ok(());
+        }
+        Err(self.wrong(what.to_string(), format!("library:  {library:?}\ndocument: {document:?}")))
+    }
+}
+
+fn made(id: u64) -> Answer {
+    Answer::Made(Made { no: DONE, id })
+}
+
+fn turn(id: u64) -> Answer {
+    Answer::Turn(Turn { no: DONE, id, reason: 0, sleep: 0 })
+}
+
+fn sleep(sleep: i64) -> Answer {
+    Answer::Turn(Turn { no: WAITING, id: 0, reason: 0, sleep })
+}
+
+fn ended(sent: u64, lost: u64) -> Answer {
+    Answer::Ended(Ended { no: DONE, sent, lost })
+}
+
+fn receive_any(wait: i64) -> Call {
+    Call::Receive { sender: ANY_SENDER, class: ANY_CLASS, tag: ANY_TAG, wait }
+}
+
+fn received(sender: u64, class: u64, tag: u64, length: u64) -> Answer {
+    Answer::Received(Received { no: DONE, sender, class, tag, length })
+}
+
+fn nothing_received(no: u64) -> Answer {
+    Answer::Received(Received { no, ..Default::default() })
+}
+
+fn notify(target: u64, tag: u64, length: usize) -> Call {
+    Call::Notify { target, tag, payload: vec![1; length] }
+}
+
+pub fn compare_examples() -> Checked {
+    ids()?;
+    headers_and_tick()?;
+    one_mailbox()?;
+    notice_lost()?;
+    sleeps()?;
+    limits()?;
+    bench_run()
+}
+
+fn ids() -> Checked {
+    let mut bench = Bench::running("ids", LARGEST, 2)?;
+    bench.expect(Call::Exit(65_532), ended(0, 0))?;
+    bench.expect(Call::Spawn(1), made(128))
+}
+
+fn headers_and_tick() -> Checked {
+    let mut bench = Bench::running("headers", LARGEST, 2)?;
+    bench.expect(notify(65, 5, 0), Answer::Number(DONE))?;
+    bench.expect(Call::After(0), made(64))?;
+    bench.expect(Call::Advance(0), Answer::Advanced(Advanced { no: DONE, fired: 1 }))?;
+    bench.same("notify header", &bench.buffers.bytes[..4], &[0x05, 0, 0, 0])?;
+    bench.same("tick header", &bench.buffers.bytes[256..260], &[0, 0, 0, 0x38])?;
+    bench.expect(receive_any(0), received(0, TIMER, 0, 8))?;
+    let tick = bench.in_hand();
+    bench.same("tick", &tick[..], &[0x06, 0, 0x01, 0, 0x40, 0, 0, 0])?;
+    bench.same("read_tick", ffi::read_tick(&tick), TickRead { no: DONE, id: 64 })?;
+    bench.expect(Call::Link(65), Answer::Number(DONE))?;
+    bench.expect(Call::Exit(65_533), ended(1, 0))?;
+    bench.same("exit header", &bench.buffers.bytes[256..260], &[0, 0, 0, 0x48])
+}
+
+fn one_mailbox() -> Checked {
+    let mut bench = Bench::running("one mailbox, one data entry", [1, 1, 1, 0, 0, 0], 1)?;
+    bench.expect(notify(64, 0, 3), Answer::Number(DONE))?;
+    bench.expect(receive_any(0), received(64, NOTIFY, 0, 3))?;
+    bench.expect(notify(64, 0, 3), Answer::Number(NO_ROOM))?;
+    bench.expect(receive_any(0), nothing_received(NOTHING))?;
+    bench.expect(notify(64, 0, 3), Answer::Number(DONE))
+}
+
+fn notice_lost() -> Checked {
+    let mut bench = Bench::running("one notice sent, one lost", [3, 1, 1, 2, 0, 0], 3)?;
+    bench.expect(Call::Link(65), Answer::Number(DONE))?;
+    bench.expect(Call::Link(66), Answer::Number(DONE))?;
+    bench.expect(notify(64, 0, 0), Answer::Number(DONE))?;
+    bench.expect(Call::Exit(65_532), ended(1, 1))
+}
+
+fn sleeps() -> Checked {
+    let mut bench = Bench::running("time to sleep", LARGEST, 1)?;
+    bench.expect(Call::Advance(1_000), Answer::Advanced(Advanced { no: DONE, fired: 0 }))?;
+    bench.expect(Call::After(500), made(64))?;
+    bench.expect(receive_any(2), nothing_received(WAITING))?;
+    bench.expect(Call::Next, sleep(500))?;
+    let mut bench = Bench::running("nothing due", LARGEST, 1)?;
+    bench.expect(receive_any(-1), nothing_received(WAITING))?;
+    bench.expect(Call::Next, sleep(-1))
+}
+
+fn limits() -> Checked {
+    let mut bench = Bench::running("limits", LARGEST, 1)?;
+    bench.expect(receive_any(-2), nothing_received(MALFORMED))?;
+    bench.expect(notify(64, 0, 252), Answer::Number(DONE))?;
+    bench.expect(notify(64, 0, 253), Answer::Number(MALFORMED))?;
+    bench.expect(notify(64, 134_217_726, 0), Answer::Number(DONE))?;
+    bench.expect(Call::Link(64), Answer::Number(MALFORMED))
+}
+
+fn bench_run() -> Checked {
+    let mut bench = Bench::running("bench run", LARGEST, 2)?;
+    bench.expect(Call::Link(65), Answer::Number(DONE))?;
+    bench.expect(Call::Exit(65_533), ended(1, 0))?;
+    bench.expect(Call::Next, turn(65))?;
+    bench.expect(receive_any(0), received(64, EXIT, 0, 14))?;
+    let notice = bench.in_hand();
+    bench.same("notice", &notice[..], &[0x0C, 0, 0x02, 0, 0x40, 0, 0, 0, 0xFD, 0xFF, 0, 0, 0, 0])?;
+    let read = ffi::read_exit(&notice);
+    bench.same("read_exit", read, ExitRead { no: DONE, actor: 64, reason: 65_533, monitor: 0 })?;
+    let word = ffi::reason_word(read.reason);
+    bench.same("reason word", &word.bytes[..word.len], b"crash")
+}

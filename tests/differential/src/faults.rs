@@ -1,0 +1,166 @@
+//! Faults that can be put into the stand-in, one at a time (environment variable FG_FAULT), to see that
+//! the differential test finds them: the wrong runtimes that document 01 names, and errors that are easy to make.
+
+use crate::layout::{self, DATA_FREE, FIRST_SPARE};
+use model::limits::*;
+use model::state::{Activity, Reason, State};
+use model::Model;
+use std::sync::OnceLock;
+
+pub const NAMES: [&str; 19] = [
+    "all-unsound",
+    "next-names-slot-0",
+    "notify-stores-nothing",
+    "exit-keeps-timers",
+    "advance-fires-all",
+    "counts-invented",
+    "only-the-slot-of-an-id",
+    "notices-before-clearing",
+    "wakes-on-any-message",
+    "head-instead-of-match",
+    "yield-to-the-head",
+    "due-from-the-old-due-time",
+    "age-not-raised",
+    "worn-slot-taken",
+    "freed-bytes-stay",
+    "word-past-the-needed",
+    "refusal-writes",
+    "spare-words-not-tested",
+    "free-bytes-not-tested",
+];
+
+fn chosen() -> &'static str {
+    static CHOSEN: OnceLock<String> = OnceLock::new();
+    CHOSEN.get_or_init(|| std::env::var("FG_FAULT").unwrap_or_default())
+}
+
+pub fn is(name: &str) -> bool {
+    debug_assert!(NAMES.contains(&name));
+    chosen() == name
+}
+
+/// What the stand-in reads from the buffers: some faults overlook damage.
+pub fn read(words: &[u64], bytes: &[u8]) -> Option<State> {
+    let (mut words, mut bytes) = (words.to_vec(), bytes.to_vec());
+    if is("all-unsound") {
+        return None;
+    }
+    if is("spare-words-not-tested") && words.len() > FIRST_SPARE {
+        words[FIRST_SPARE] = 0;
+    }
+    if is("free-bytes-not-tested") {
+        clear_free_entries(&words, &mut bytes);
+    }
+    layout::decode(&words, &bytes)
+}
+
+fn clear_free_entries(words: &[u64], bytes: &mut [u8]) {
+    let Some(caps) = layout::capacities(words, bytes) else { return };
+    let start = layout::starts(&caps)[DATA_FREE];
+    for entry in (0..caps[2] as usize).filter(|e| words[start + e / 64] >> (e % 64) & 1 == 1) {
+        bytes[256 * entry..256 * (entry + 1)].fill(0);
+    }
+}
+
+/// Bends the state before a call.
+pub fn before(call: &str, state: &mut State) {
+    let clock = state.clock;
+    if is("advance-fires-all") && call == "advance" {
+        state.timers.slots.iter_mut().filter_map(|s| s.held.as_mut()).for_each(|t| t.due = clock);
+    }
+    if is("worn-slot-taken") && call == "spawn" {
+        let worn = state.actors.slots.iter_mut().find(|s| s.held.is_none() && s.age == MAX_AGE);
+        worn.into_iter().for_each(|s| s.age -= 1);
+    }
+    if is("next-names-slot-0") && call == "next" {
+        if let Some(place) = state.queue.iter().position(|&slot| slot == 0) {
+            state.queue.remove(place);
+            state.queue.insert(0, 0);
+            state.actors.get_mut(0).expect("queued actors live").priority = 0;
+        }
+    }
+    if is("notices-before-clearing") && call == "exit" {
+        keep_room_taken(state);
+    }
+}
+
+/// Gives the running actor's messages and hand to nobody, so that they still take room while notices are sent.
+fn keep_room_taken(state: &mut State) {
+    let Some(me) = state.running() else { return };
+    state.arrivals.retain(|&entry| state.letters.get(entry).is_some_and(|l| l.owner != me));
+    state.actors.get_mut(me).expect("the running actor lives").hand = None;
+}
+
+/// Frees what nobody owns.
+fn free_room(state: &mut State) {
+    for entry in 0..state.letters.entries.len() {
+        if !state.arrivals.contains(&entry) {
+            state.letters.release(entry);
+        }
+    }
+    let mut owned: Vec<usize> = state.letters.used().map(|(_, l)| l.data).collect();
+    owned.extend(state.actors.live().filter_map(|(_, a)| a.hand));
+    for entry in (0..state.data.entries.len()).filter(|e| !owned.contains(e)) {
+        state.data.release(entry);
+    }
+}
+
+/// Bends the state after a call that was not refused.
+pub fn after(call: &str, old: &State, new: &mut State) {
+    match call {
+        "notify" if is("notify-stores-nothing") => *new = old.clone(),
+        "exit" if is("exit-keeps-timers") => new.timers = old.timers.clone(),
+        "exit" if is("notices-before-clearing") => free_room(new),
+        "notify" if is("wakes-on-any-message") => wake_all_with_mail(new),
+        "yield" if is("yield-to-the-head") => new.queue.rotate_right(1),
+        "advance" if is("due-from-the-old-due-time") => count_from_old_due(old, new),
+        "spawn" if is("age-not-raised") => lower_new_ages(old, new),
+        _ => {}
+    }
+}
+
+fn wake_all_with_mail(state: &mut State) {
+    let waiting = |state: &State, slot: usize| {
+        matches!(state.actors.get(slot).map(|a| &a.activity), Some(Activity::Waiting { .. }))
+    };
+    let owners: Vec<usize> = state.letters.used().map(|(_, l)| l.owner).collect();
+    for owner in owners {
+        if waiting(state, owner) {
+            state.make_runnable(owner, Reason::Message);
+        }
+    }
+}
+
+fn count_from_old_due(old: &State, new: &mut State) {
+    for (slot, timer) in new.timers.slots.iter_mut().enumerate() {
+        let (Some(before), Some(now)) = (old.timers.get(slot), timer.held.as_mut()) else { continue };
+        if let (Some(interval), true) = (now.interval, before.due != now.due) {
+            now.due = before.due + interval;
+        }
+    }
+}
+
+fn lower_new_ages(old: &State, new: &mut State) {
+    for (before, now) in old.actors.slots.iter().zip(new.actors.slots.iter_mut()) {
+        if now.age > before.age && before.age > 0 {
+            now.age = before.age;
+        }
+    }
+}
+
+/// Bends the buffers after a call.
+pub fn spoil(old: &Model, new: &Model, words: &mut [u64], bytes: &mut [u8]) {
+    if is("refusal-writes") && old == new {
+        words.iter_mut().skip(6).take(1).for_each(|clock| *clock ^= 1);
+    }
+    let Some(state) = &new.state else { return };
+    if is("word-past-the-needed") {
+        let needed = words_needed(&state.capacities()) as usize;
+        words.iter_mut().skip(needed).take(1).for_each(|word| *word = 0);
+    }
+    if is("freed-bytes-stay") {
+        let Some(before) = &old.state else { return };
+        let freed = before.data.used().filter(|(entry, _)| state.data.get(*entry).is_none());
+        freed.for_each(|(entry, message)| bytes[256 * entry] = message.tag as u8);
+    }
+}

@@ -1,0 +1,365 @@
+//! Random calls: mostly sensible ones, so that runs get far, and every boundary value of document 01.
+
+use crate::call::Call;
+use crate::random::Random;
+use model::limits::*;
+use model::pool::Slots;
+use model::state::{Activity, State};
+
+/// Ids that were answered at some time, the latest ones.
+#[derive(Default)]
+pub struct Seen {
+    ids: Vec<u64>,
+}
+
+impl Seen {
+    const KEPT: usize = 64;
+
+    pub fn add(&mut self, id: u64) {
+        if self.ids.len() == Self::KEPT {
+            self.ids.remove(0);
+        }
+        self.ids.push(id);
+    }
+}
+
+/// How often each group of calls is made in one run.
+#[derive(Debug, Clone)]
+pub struct Mood {
+    weights: [u64; 16],
+    /// Of a hundred numbers, how many are chosen to be odd.
+    odd: u64,
+    /// The largest payload that is sent often.
+    payload: u64,
+}
+
+/// The order of the weights: spawn, next, yield, notify, receive, shown, after, every, cancel, link,
+/// unlink, monitor, demonitor, exit, advance, report.
+const MOODS: [[u64; 16]; 7] = [
+    // A bit of everything.
+    [4, 10, 6, 20, 20, 4, 4, 3, 3, 4, 2, 4, 2, 3, 8, 2],
+    // Messages until the pools are full.
+    [3, 10, 8, 50, 10, 3, 1, 1, 1, 1, 1, 1, 1, 1, 3, 2],
+    // Messages that come and go.
+    [3, 15, 5, 25, 35, 6, 1, 1, 1, 1, 1, 1, 1, 1, 4, 1],
+    // Timers and deadlines.
+    [3, 10, 4, 4, 20, 2, 14, 10, 5, 1, 1, 1, 1, 2, 24, 2],
+    // Many links, monitors and ends.
+    [16, 12, 6, 6, 6, 2, 3, 2, 1, 18, 4, 16, 4, 10, 3, 2],
+    // Many short lives.
+    [25, 20, 2, 8, 6, 2, 3, 1, 1, 5, 1, 5, 1, 20, 3, 2],
+    // Everything is made and nothing ends.
+    [20, 12, 10, 10, 2, 1, 10, 10, 1, 14, 1, 14, 1, 1, 1, 2],
+];
+
+pub fn mood(random: &mut Random) -> Mood {
+    Mood { weights: random.pick(&MOODS), odd: random.pick(&[2, 8, 30]), payload: random.pick(&[4, 20, 252]) }
+}
+
+/// Capacities for a start that succeeds in long enough buffers.
+pub fn good_capacities(random: &mut Random) -> Capacities {
+    match random.below(12) {
+        0 => [1, 1, 1, 0, 0, 0],
+        1 => LARGEST,
+        2 => within(random, [3, 3, 3, 2, 2, 2]),
+        3 => within(random, LARGEST),
+        4..=6 => [8, 24, 24, 8, 8, 6],
+        _ => within(random, [8, 12, 12, 8, 8, 6]),
+    }
+}
+
+fn within(random: &mut Random, limit: Capacities) -> Capacities {
+    std::array::from_fn(|i| random.between(SMALLEST[i], limit[i]))
+}
+
+/// Capacities of which one may be out of range.
+fn any_capacities(random: &mut Random) -> Capacities {
+    let mut caps = good_capacities(random);
+    if random.percent(50) {
+        let pool = random.index(6);
+        caps[pool] = random.pick(&[0, 1, LARGEST[pool], LARGEST[pool] + 1, 1 << 32, u64::MAX]);
+    }
+    caps
+}
+
+/// The generator's view of one call: the random source, the state, what was seen, and the mood.
+pub struct Generator<'a> {
+    pub random: &'a mut Random,
+    pub state: Option<&'a State>,
+    pub actors: &'a Seen,
+    pub timers: &'a Seen,
+    pub monitors: &'a Seen,
+    pub mood: &'a Mood,
+}
+
+impl Generator<'_> {
+    pub fn call(&mut self) -> Call {
+        if self.random.once_in(400) {
+            return Call::Start(any_capacities(self.random));
+        }
+        if let Some(call) = self.likely() {
+            return call;
+        }
+        match self.random.weighted(&self.weights()) {
+            0 => Call::Spawn(self.priority()),
+            1 => Call::Next,
+            2 => Call::Yield,
+            3 => self.notify(),
+            4 => self.receive(),
+            5 => Call::Shown,
+            6 => Call::After(self.step()),
+            7 => Call::Every(self.step()),
+            8 => Call::Cancel(self.own_timer().unwrap_or_else(|| self.timer())),
+            9 => Call::Link(self.actor()),
+            10 => Call::Unlink(self.partner().unwrap_or_else(|| self.actor())),
+            11 => Call::Monitor(self.actor()),
+            12 => Call::Demonitor(self.own_monitor().unwrap_or_else(|| self.monitor())),
+            13 => Call::Exit(self.reason()),
+            14 => Call::Advance(self.advance()),
+            _ => Call::Report,
+        }
+    }
+
+    /// What a host would do when nobody runs, in most cases.
+    fn likely(&mut self) -> Option<Call> {
+        let state = self.state?;
+        if self.random.percent(10) {
+            return None;
+        }
+        if state.running().is_some() {
+            return None;
+        }
+        if !state.queue.is_empty() {
+            return Some(Call::Next);
+        }
+        let room = state.actors.free_count() > 0;
+        if !room && self.time_ahead().is_none() && self.random.percent(20) {
+            // Everybody waits for ever and nobody else can come.
+            return Some(Call::Start(state.capacities()));
+        }
+        let spawns = if room { 50 } else { 10 };
+        Some(if self.random.percent(spawns) { Call::Spawn(self.priority()) } else { Call::Advance(self.advance()) })
+    }
+
+    /// The mood's weights; next is seldom called while somebody runs.
+    fn weights(&self) -> [u64; 16] {
+        let mut weights = self.mood.weights;
+        if self.state.is_some_and(|s| s.running().is_some()) {
+            weights[1] = 1;
+        }
+        weights
+    }
+
+    fn odd(&mut self) -> bool {
+        self.random.percent(self.mood.odd)
+    }
+
+    fn priority(&mut self) -> u64 {
+        if self.odd() {
+            self.random.pick(&[3, 4, 255, 256, 1 << 32, 1 << 63, u64::MAX])
+        } else {
+            self.random.below(4)
+        }
+    }
+
+    fn tag(&mut self) -> u64 {
+        if self.odd() {
+            self.random.pick(&[ANY_TAG - 1, ANY_TAG, ANY_TAG + 1, 1 << 28, 1 << 32, (1 << 32) + 1, u64::MAX])
+        } else {
+            self.random.below(3)
+        }
+    }
+
+    /// In half the cases, one of these.
+    fn half_of(&mut self, ids: Vec<u64>) -> Option<u64> {
+        if self.random.percent(50) {
+            self.random.pick_some(&ids)
+        } else {
+            None
+        }
+    }
+
+    fn own_timer(&mut self) -> Option<u64> {
+        let state = self.state?;
+        let me = state.running()?;
+        let own = state.timers.live().filter(|(_, t)| t.owner == me);
+        self.half_of(own.map(|(slot, _)| state.timers.id(slot)).collect())
+    }
+
+    fn own_monitor(&mut self) -> Option<u64> {
+        let state = self.state?;
+        let me = state.running()?;
+        let own = state.monitors.live().filter(|(_, m)| m.watcher == me);
+        self.half_of(own.map(|(slot, _)| state.monitors.id(slot)).collect())
+    }
+
+    /// An actor that the running one is linked to.
+    fn partner(&mut self) -> Option<u64> {
+        let state = self.state?;
+        let me = state.running()?;
+        let partners = state.links.used().filter_map(|(_, link)| link.partner(me));
+        self.half_of(partners.map(|slot| state.actors.id(slot)).collect())
+    }
+
+    /// A waiting actor and the tag that it waits for.
+    fn awaited(&mut self) -> Option<(u64, u64)> {
+        let state = self.state?;
+        let waiting: Vec<(u64, u64)> = state
+            .actors
+            .live()
+            .filter_map(|(slot, actor)| match &actor.activity {
+                Activity::Waiting { filter, .. } => Some((state.actors.id(slot), filter.tag % ANY_TAG)),
+                _ => None,
+            })
+            .collect();
+        self.random.pick_some(&waiting)
+    }
+
+    /// A filter for a message in the running actor's mailbox.
+    fn fitting(&mut self) -> Option<(u64, u64, u64)> {
+        let state = self.state?;
+        let me = state.running()?;
+        let mine: Vec<usize> = state.letters.used().filter(|(_, l)| l.owner == me).map(|(_, l)| l.data).collect();
+        let message = state.data.get(self.random.pick_some(&mine)?)?;
+        let sender = self.random.pick(&[message.sender, ANY_SENDER]);
+        let class = self.random.pick(&[message.class, ANY_CLASS]);
+        Some((sender, class, self.random.pick(&[message.tag, ANY_TAG])))
+    }
+
+    fn notify(&mut self) -> Call {
+        if self.random.percent(25) {
+            if let Some((target, tag)) = self.awaited() {
+                let length = self.random.index(20);
+                return Call::Notify { target, tag, payload: self.random.bytes(length) };
+            }
+        }
+        let length = if self.odd() {
+            self.random.pick(&[0, 251, 252, 253, 256, 257, 300, 1_000])
+        } else {
+            self.random.between(0, self.mood.payload) as usize
+        };
+        Call::Notify { target: self.actor(), tag: self.tag(), payload: self.random.bytes(length) }
+    }
+
+    fn receive(&mut self) -> Call {
+        if self.random.percent(50) {
+            if let Some((sender, class, tag)) = self.fitting() {
+                return Call::Receive { sender, class, tag, wait: self.wait() };
+            }
+        }
+        Call::Receive { sender: self.sender(), class: self.class(), tag: self.wanted_tag(), wait: self.wait() }
+    }
+
+    fn sender(&mut self) -> u64 {
+        if self.odd() {
+            self.random.pick(&[0, ANY_SENDER - 1, ANY_SENDER + 1, 1 << 33, u64::MAX])
+        } else if self.random.percent(60) {
+            ANY_SENDER
+        } else if self.random.percent(20) {
+            0
+        } else {
+            self.actor()
+        }
+    }
+
+    fn class(&mut self) -> u64 {
+        if self.odd() {
+            self.random.pick(&[1, 2, 4, 5, 9, 14, 16, 31, 1 << 32, u64::MAX])
+        } else if self.random.percent(60) {
+            ANY_CLASS
+        } else {
+            self.random.pick(&[NOTIFY, TIMER, EXIT])
+        }
+    }
+
+    fn wanted_tag(&mut self) -> u64 {
+        if self.random.percent(60) {
+            ANY_TAG
+        } else {
+            self.tag()
+        }
+    }
+
+    fn wait(&mut self) -> i64 {
+        if self.odd() {
+            self.random.pick(&[-2, -1_000, i64::MIN, i64::MAX, MAX_WAIT - 1, MAX_WAIT, MAX_WAIT + 1, 1 << 32])
+        } else {
+            self.random.pick(&[-1, 0, 0, 1, 1, 2, 3, 10, 100])
+        }
+    }
+
+    /// Delays and intervals.
+    fn step(&mut self) -> u64 {
+        if self.odd() {
+            self.random.pick(&[0, 1, MAX_STEP - 1, MAX_STEP, MAX_STEP + 1, 1 << 62, u64::MAX])
+        } else {
+            self.random.pick(&[0, 1, 10, 500, 999, 1_000, 1_000, 1_001, 2_000, 10_000])
+        }
+    }
+
+    fn advance(&mut self) -> u64 {
+        if self.odd() {
+            return self.random.pick(&[0, MAX_STEP - 1, MAX_STEP, MAX_STEP + 1, 1 << 62, 1 << 63, u64::MAX]);
+        }
+        match self.time_ahead() {
+            Some(us) if self.random.percent(50) => (us + self.random.below(3)).saturating_sub(1).min(MAX_STEP),
+            _ => self.random.pick(&[0, 1, 10, 500, 1_000, 2_000, 5_000, 100_000]),
+        }
+    }
+
+    /// The time to some deadline or due time.
+    fn time_ahead(&mut self) -> Option<u64> {
+        let state = self.state?;
+        let mut times: Vec<u64> = state.timers.live().map(|(_, t)| t.due).collect();
+        times.extend(state.actors.live().filter_map(|(_, a)| match a.activity {
+            Activity::Waiting { deadline, .. } => deadline,
+            _ => None,
+        }));
+        Some(self.random.pick_some(&times)?.saturating_sub(state.clock))
+    }
+
+    fn reason(&mut self) -> u64 {
+        if self.odd() {
+            self.random.pick(&[65_536, 65_537, 1 << 32, (1 << 32) + 65_533, u64::MAX])
+        } else {
+            self.random.pick(&[0, 1, 65_530, 65_531, 65_532, 65_533, 65_534, 65_535])
+        }
+    }
+
+    fn actor(&mut self) -> u64 {
+        let live = self.state.map(|s| live_ids(&s.actors)).unwrap_or_default();
+        self.id(live, &self.actors.ids, ACTOR_FACTOR)
+    }
+
+    fn timer(&mut self) -> u64 {
+        let live = self.state.map(|s| live_ids(&s.timers)).unwrap_or_default();
+        self.id(live, &self.timers.ids, TIMER_FACTOR)
+    }
+
+    fn monitor(&mut self) -> u64 {
+        let live = self.state.map(|s| live_ids(&s.monitors)).unwrap_or_default();
+        self.id(live, &self.monitors.ids, MONITOR_FACTOR)
+    }
+
+    /// A live id in most cases, an old one, one close by, or any number.
+    fn id(&mut self, live: Vec<u64>, seen: &[u64], factor: u64) -> u64 {
+        let from = if self.random.percent(80) { &live[..] } else { seen };
+        let id = self.random.pick_some(from).unwrap_or(factor);
+        if !self.odd() {
+            return id;
+        }
+        match self.random.below(7) {
+            0 => id + factor,
+            1 => id.saturating_sub(factor),
+            2 => id + (1 << 32),
+            3 => id + (1 << 63),
+            4 => self.random.pick(&[0, 1, 63, 64, 127, 128, 2_112_000_000, 2_112_000_064, 4_224_000_000]),
+            5 => self.random.pick(&[ANY_SENDER, ANY_SENDER + 1, u64::MAX, 1 << 63]),
+            _ => self.random.bits(),
+        }
+    }
+}
+
+fn live_ids<T>(pool: &Slots<T>) -> Vec<u64> {
+    pool.live().map(|(slot, _)| pool.id(slot)).collect()
+}

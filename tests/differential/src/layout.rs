@@ -1,0 +1,336 @@
+//! The two buffers as docs/LAYOUT.md describes them: where a column lies, and what the buffers say
+//! (`decode`, None where they are not sound).
+
+use model::limits::*;
+use model::pool::Slots;
+use model::records::{parts, EXIT_BYTES, TICK_BYTES};
+use model::state::{Activity, Actor, Filter, Letter, Link, Message, Monitor, Reason, State, Timer};
+
+pub const CLOCK: usize = 6;
+pub const RUNNING: usize = 7;
+pub const QUEUED: usize = 8;
+pub const ARRIVED: usize = 9;
+pub const FIRST_SPARE: usize = 10;
+pub const LAST_SPARE: usize = 15;
+pub const MAIL_FREE: usize = 16;
+pub const DATA_FREE: usize = 17;
+pub const STATE: usize = 18;
+pub const PRIORITY: usize = 19;
+pub const REASON: usize = 20;
+pub const AGE: usize = 21;
+pub const HAND: usize = 22;
+pub const WANT_SENDER: usize = 23;
+pub const WANT_CLASS: usize = 24;
+pub const WANT_TAG: usize = 25;
+pub const DEADLINE: usize = 26;
+pub const QUEUE: usize = 27;
+pub const MAIL_OWNER: usize = 28;
+pub const MAIL_DATA: usize = 29;
+pub const ARRIVAL: usize = 30;
+pub const SENDER: usize = 31;
+pub const LENGTH: usize = 32;
+pub const LINK_ONE: usize = 33;
+pub const LINK_TWO: usize = 34;
+pub const WATCHER: usize = 35;
+pub const WATCHED: usize = 36;
+pub const MONITOR_AGE: usize = 37;
+pub const TIMER_OWNER: usize = 38;
+pub const TIMER_AGE: usize = 39;
+pub const DUE: usize = 40;
+pub const INTERVAL: usize = 41;
+pub const REST: usize = 42;
+
+pub const FREE: u64 = 0;
+pub const RUNNABLE: u64 = 1;
+pub const RUNS: u64 = 2;
+pub const WAITS: u64 = 3;
+
+/// The words of a column.
+fn size(caps: &Capacities, column: usize) -> usize {
+    let words = match column {
+        0..=LAST_SPARE => 1,
+        MAIL_FREE | DATA_FREE => 4,
+        STATE..=QUEUE => caps[0],
+        MAIL_OWNER..=ARRIVAL => caps[1],
+        SENDER | LENGTH => caps[2],
+        LINK_ONE | LINK_TWO => caps[3],
+        WATCHER..=MONITOR_AGE => caps[4],
+        _ => caps[5],
+    };
+    words as usize
+}
+
+/// Where each column starts; the last start is that of the rest.
+pub fn starts(caps: &Capacities) -> [usize; REST + 1] {
+    let mut starts = [0; REST + 1];
+    for column in 0..REST {
+        starts[column + 1] = starts[column] + size(caps, column);
+    }
+    starts
+}
+
+/// The capacities that the buffers name, where they are in range and the buffers are long enough.
+pub fn capacities(words: &[u64], bytes: &[u8]) -> Option<Capacities> {
+    let caps: Capacities = words.get(..6)?.try_into().ok()?;
+    let fits =
+        in_range(&caps) && words.len() as u64 >= words_needed(&caps) && bytes.len() as u64 >= bytes_needed(&caps);
+    fits.then_some(caps)
+}
+
+struct Reader<'a> {
+    caps: Capacities,
+    starts: [usize; REST + 1],
+    words: &'a [u64],
+    bytes: &'a [u8],
+}
+
+impl Reader<'_> {
+    fn at(&self, column: usize, entry: usize) -> u64 {
+        self.words[self.starts[column] + entry]
+    }
+
+    fn all_zero(&self, columns: &[usize], entry: usize) -> bool {
+        columns.iter().all(|&c| self.at(c, entry) == 0)
+    }
+
+    fn size(&self, pool: usize) -> usize {
+        self.caps[pool] as usize
+    }
+
+    /// The bytes of a data entry.
+    fn entry(&self, n: usize) -> &[u8] {
+        &self.bytes[256 * n..256 * (n + 1)]
+    }
+
+    /// The free bits of a pool, where no bit past its size is set.
+    fn free_bits(&self, column: usize, size: usize) -> Option<Vec<bool>> {
+        let bit = |i: usize| self.at(column, i / 64) >> (i % 64) & 1 == 1;
+        (size..256).all(|i| !bit(i)).then(|| (0..size).map(bit).collect())
+    }
+
+    /// A number stored one up that must name one of `size`.
+    fn named(&self, column: usize, entry: usize, size: usize) -> Option<usize> {
+        let word = self.at(column, entry);
+        (1..=size as u64).contains(&word).then(|| word as usize - 1)
+    }
+
+    /// The numbers of a counted list; words past the count are 0.
+    fn list(&self, column: usize, count: usize, size: usize) -> Option<Vec<usize>> {
+        let count = self.at(count, 0);
+        require(count <= size as u64)?;
+        require((count as usize..size).all(|i| self.at(column, i) == 0))?;
+        let list: Vec<u64> = (0..count as usize).map(|i| self.at(column, i)).collect();
+        require(list.iter().all(|&x| x < size as u64))?;
+        Some(list.into_iter().map(|x| x as usize).collect())
+    }
+}
+
+fn require(holds: bool) -> Option<()> {
+    holds.then_some(())
+}
+
+/// Says whether the list has each of `wanted` once and nothing else.
+fn has_exactly(list: &[usize], wanted: impl Iterator<Item = usize>) -> bool {
+    let mut sorted = list.to_vec();
+    sorted.sort();
+    sorted.into_iter().eq(wanted)
+}
+
+/// What the buffers say, or None where a rule of soundness is broken or a buffer is too short.
+pub fn decode(words: &[u64], bytes: &[u8]) -> Option<State> {
+    let caps = capacities(words, bytes)?;
+    let r = Reader { caps, starts: starts(&caps), words, bytes };
+    let mut state = State::fresh(&caps);
+    state.clock = r.at(CLOCK, 0);
+    require(state.clock <= MAX_CLOCK)?;
+    require((FIRST_SPARE..=LAST_SPARE).all(|c| r.at(c, 0) == 0))?;
+    read_actors(&r, &mut state)?;
+    read_queue(&r, &mut state)?;
+    read_letters(&r, &mut state)?;
+    read_data(&r, &mut state)?;
+    read_links(&r, &mut state)?;
+    read_monitors(&r, &mut state)?;
+    read_timers(&r, &mut state)?;
+    require(nobody_waits_in_vain(&state))?;
+    Some(state)
+}
+
+fn read_actors(r: &Reader, state: &mut State) -> Option<()> {
+    for i in 0..r.size(0) {
+        let age = r.at(AGE, i);
+        require(age <= MAX_AGE)?;
+        state.actors.slots[i].age = age;
+        state.actors.slots[i].held = read_actor(r, i, state.clock)?;
+    }
+    let running: Vec<usize> = (0..r.size(0)).filter(|&i| r.at(STATE, i) == RUNS).collect();
+    match r.at(RUNNING, 0) {
+        0 => require(running.is_empty()),
+        slot => require(running.len() == 1 && running[0] as u64 == slot - 1),
+    }
+}
+
+/// The actor in a slot: None where the slot is not sound, Some(None) where it is free.
+fn read_actor(r: &Reader, i: usize, clock: u64) -> Option<Option<Actor>> {
+    let wants = [WANT_SENDER, WANT_CLASS, WANT_TAG, DEADLINE];
+    if r.at(STATE, i) == FREE {
+        require(r.all_zero(&[PRIORITY, REASON, HAND], i) && r.all_zero(&wants, i))?;
+        return Some(None);
+    }
+    require(r.at(AGE, i) >= 1 && r.at(PRIORITY, i) <= MAX_PRIORITY)?;
+    let activity = match r.at(STATE, i) {
+        RUNNABLE => Activity::Runnable(read_reason(r.at(REASON, i))?),
+        RUNS => Activity::Running,
+        WAITS => read_wait(r, i, clock)?,
+        _ => return None,
+    };
+    let is = |state: u64| r.at(STATE, i) == state;
+    require(is(RUNNABLE) || r.at(REASON, i) == 0)?;
+    require(is(WAITS) || r.all_zero(&wants, i))?;
+    let hand = match r.at(HAND, i) {
+        0 => None,
+        _ => Some(r.named(HAND, i, r.size(2))?),
+    };
+    Some(Some(Actor { priority: r.at(PRIORITY, i), activity, hand }))
+}
+
+fn read_reason(word: u64) -> Option<Reason> {
+    match word {
+        0 => Some(Reason::Ready),
+        1 => Some(Reason::Message),
+        2 => Some(Reason::Timeout),
+        _ => None,
+    }
+}
+
+fn read_wait(r: &Reader, i: usize, clock: u64) -> Option<Activity> {
+    let filter = Filter { sender: r.at(WANT_SENDER, i), class: r.at(WANT_CLASS, i), tag: r.at(WANT_TAG, i) };
+    require(filter.is_legal())?;
+    let deadline = match r.at(DEADLINE, i) {
+        0 => None,
+        time => {
+            require(clock < time && time <= MAX_DEADLINE)?;
+            Some(time)
+        }
+    };
+    Some(Activity::Waiting { filter, deadline })
+}
+
+fn read_queue(r: &Reader, state: &mut State) -> Option<()> {
+    state.queue = r.list(QUEUE, QUEUED, r.size(0))?;
+    let runnable = (0..r.size(0)).filter(|&i| r.at(STATE, i) == RUNNABLE);
+    require(has_exactly(&state.queue, runnable))
+}
+
+fn read_letters(r: &Reader, state: &mut State) -> Option<()> {
+    let free = r.free_bits(MAIL_FREE, r.size(1))?;
+    for i in 0..r.size(1) {
+        if free[i] {
+            require(r.all_zero(&[MAIL_OWNER, MAIL_DATA], i))?;
+            continue;
+        }
+        let owner = r.named(MAIL_OWNER, i, r.size(0))?;
+        let data = r.named(MAIL_DATA, i, r.size(2))?;
+        state.actors.get(owner)?;
+        state.letters.entries[i] = Some(Letter { owner, data });
+    }
+    state.arrivals = r.list(ARRIVAL, ARRIVED, r.size(1))?;
+    require(has_exactly(&state.arrivals, (0..r.size(1)).filter(|&i| !free[i])))
+}
+
+fn read_data(r: &Reader, state: &mut State) -> Option<()> {
+    let free = r.free_bits(DATA_FREE, r.size(2))?;
+    let queued = state.letters.used().map(|(_, letter)| letter.data);
+    let owned: Vec<usize> = queued.chain(state.actors.live().filter_map(|(_, a)| a.hand)).collect();
+    require(has_exactly(&owned, (0..r.size(2)).filter(|&i| !free[i])))?;
+    for i in 0..r.size(2) {
+        if free[i] {
+            require(r.all_zero(&[SENDER, LENGTH], i) && r.entry(i).iter().all(|&b| b == 0))?;
+        } else {
+            state.data.entries[i] = Some(read_message(r, i, &state.actors)?);
+        }
+    }
+    Some(())
+}
+
+fn read_message(r: &Reader, i: usize, actors: &Slots<Actor>) -> Option<Message> {
+    let bytes = r.entry(i);
+    let (class, by_runtime, tag) = parts([bytes[0], bytes[1], bytes[2], bytes[3]]);
+    let (sender, length) = (r.at(SENDER, i), r.at(LENGTH, i));
+    require(length <= MAX_PAYLOAD as u64)?;
+    let length = length as usize;
+    require(match class {
+        NOTIFY => !by_runtime && tag < ANY_TAG,
+        TIMER => by_runtime && tag == 0 && length == TICK_BYTES,
+        EXIT => by_runtime && tag == 0 && length == EXIT_BYTES,
+        _ => false,
+    })?;
+    require(if sender == 0 { class == TIMER } else { was_an_actor(actors, sender) })?;
+    require(bytes[4 + length..].iter().all(|&b| b == 0))?;
+    Some(Message { sender, class, tag, payload: bytes[4..4 + length].to_vec() })
+}
+
+/// An actor id of age 1 to its slot's age.
+fn was_an_actor(actors: &Slots<Actor>, id: u64) -> bool {
+    let (slot, age) = ((id % ACTOR_FACTOR) as usize, id / ACTOR_FACTOR);
+    actors.slots.get(slot).is_some_and(|s| 1 <= age && age <= s.age)
+}
+
+fn read_links(r: &Reader, state: &mut State) -> Option<()> {
+    for i in 0..r.size(3) {
+        if r.all_zero(&[LINK_ONE, LINK_TWO], i) {
+            continue;
+        }
+        let (a, b) = read_pair(r, LINK_ONE, LINK_TWO, i, state)?;
+        require(state.link_between(a, b).is_none())?;
+        state.links.entries[i] = Some(Link::new(a, b));
+    }
+    Some(())
+}
+
+/// Two different live actors.
+fn read_pair(r: &Reader, one: usize, two: usize, i: usize, state: &State) -> Option<(usize, usize)> {
+    let a = r.named(one, i, r.size(0))?;
+    let b = r.named(two, i, r.size(0))?;
+    require(a != b && state.actors.get(a).is_some() && state.actors.get(b).is_some())?;
+    Some((a, b))
+}
+
+fn read_monitors(r: &Reader, state: &mut State) -> Option<()> {
+    for i in 0..r.size(4) {
+        let age = r.at(MONITOR_AGE, i);
+        require(age <= MAX_AGE)?;
+        state.monitors.slots[i].age = age;
+        if r.all_zero(&[WATCHER, WATCHED], i) {
+            continue;
+        }
+        require(age >= 1)?;
+        let (watcher, watched) = read_pair(r, WATCHER, WATCHED, i, state)?;
+        state.monitors.slots[i].held = Some(Monitor { watcher, watched });
+    }
+    Some(())
+}
+
+fn read_timers(r: &Reader, state: &mut State) -> Option<()> {
+    for i in 0..r.size(5) {
+        let age = r.at(TIMER_AGE, i);
+        require(age <= MAX_AGE)?;
+        state.timers.slots[i].age = age;
+        if r.all_zero(&[TIMER_OWNER, DUE, INTERVAL], i) {
+            continue;
+        }
+        let owner = r.named(TIMER_OWNER, i, r.size(0))?;
+        let (due, interval) = (r.at(DUE, i), r.at(INTERVAL, i));
+        require(age >= 1 && state.actors.get(owner).is_some() && due <= MAX_DUE && interval <= MAX_STEP)?;
+        let interval = (interval != 0).then_some(interval);
+        state.timers.slots[i].held = Some(Timer { owner, due, interval });
+    }
+    Some(())
+}
+
+/// No waiting actor's mailbox holds what its filter matches.
+fn nobody_waits_in_vain(state: &State) -> bool {
+    state.actors.live().all(|(slot, actor)| match &actor.activity {
+        Activity::Waiting { filter, .. } => state.first_match(slot, filter).is_none(),
+        _ => true,
+    })
+}

@@ -1,0 +1,112 @@
+//! Drives the library through its C boundary and the model with the same calls, side by side.
+//! Every answer is compared; after every call what the buffers say is compared with the model; after
+//! every refusal both buffers must be as before. Damaged buffers must be refused with 7 exactly
+//! where they are not sound.
+
+mod call;
+mod compare;
+mod counts;
+mod damage;
+#[cfg(self_test)]
+mod encode;
+mod examples;
+#[cfg(self_test)]
+mod faults;
+mod ffi;
+mod generate;
+mod layout;
+mod random;
+mod recorded;
+mod session;
+#[cfg(self_test)]
+mod stub;
+
+use compare::Difference;
+use counts::Counts;
+use random::Random;
+use session::Session;
+use std::process::ExitCode;
+use std::time::{Duration, Instant};
+
+const SEED: u64 = 1;
+const CALLS: u64 = 400_000;
+/// A run by default ends here, whatever the number of calls.
+const SECONDS: u64 = 35;
+
+struct Options {
+    seed: u64,
+    calls: u64,
+    seconds: u64,
+}
+
+const USAGE: &str = "differential [SEED [CALLS [SECONDS]]]";
+
+fn options() -> Result<Options, String> {
+    let mut numbers = Vec::new();
+    for word in std::env::args().skip(1) {
+        numbers.push(word.parse::<u64>().map_err(|_| format!("not a number: {word}\n{USAGE}"))?);
+    }
+    if numbers.len() > 3 {
+        return Err(USAGE.to_string());
+    }
+    let number = |i: usize, default: u64| numbers.get(i).copied().unwrap_or(default);
+    // Who asks for a number of calls gets them all, unless a time is given too.
+    let seconds = number(2, if numbers.len() > 1 { u64::MAX / 2 } else { SECONDS });
+    Ok(Options { seed: number(0, SEED), calls: number(1, CALLS), seconds })
+}
+
+/// Runs sessions until the calls or the time are used up.
+fn run(options: &Options) -> Result<Counts, Difference> {
+    let mut random = Random::new(options.seed);
+    let began = Instant::now();
+    let mut counts = Counts::default();
+    examples::compare_examples()?;
+    recorded::compare_records(&mut random)?;
+    while counts.calls < options.calls && began.elapsed() < Duration::from_secs(options.seconds) {
+        Session::new(&mut random, &mut counts).run()?;
+    }
+    Ok(counts)
+}
+
+/// With the word `faults`, and no archive linked: names what FG_FAULT can put into the stand-in.
+#[cfg(self_test)]
+fn lists_faults() -> bool {
+    let asked = std::env::args().nth(1).is_some_and(|word| word == "faults");
+    if asked {
+        faults::NAMES.iter().for_each(|name| println!("{name}"));
+    }
+    asked
+}
+
+#[cfg(not(self_test))]
+fn lists_faults() -> bool {
+    false
+}
+
+fn main() -> ExitCode {
+    if lists_faults() {
+        return ExitCode::SUCCESS;
+    }
+    let options = match options() {
+        Ok(options) => options,
+        Err(message) => {
+            eprintln!("{message}");
+            return ExitCode::from(2);
+        }
+    };
+    if cfg!(self_test) {
+        println!("differential: no archive is linked (FG_LIB is not set): the model is compared with itself");
+    }
+    match run(&options) {
+        Ok(counts) => {
+            counts.print();
+            println!("differential: {} calls compared, seed {}", counts.calls, options.seed);
+            ExitCode::SUCCESS
+        }
+        Err(difference) => {
+            println!("{difference}");
+            println!("differential: FAILED, seed {}", options.seed);
+            ExitCode::FAILURE
+        }
+    }
+}

@@ -1,0 +1,54 @@
+//! The ranges and special numbers of document 01.
+
+/// Largest capacity of each pool, in the order of the pool table.
+pub const LARGEST: [u64; 6] = [64, 256, 256, 128, 128, 64];
+/// Smallest capacity of each pool, in the same order.
+pub const SMALLEST: [u64; 6] = [1, 1, 1, 0, 0, 0];
+
+/// Ids of actors and timers are age × 64 + slot, those of monitors age × 128 + slot.
+pub const ACTOR_FACTOR: u64 = 64;
+pub const TIMER_FACTOR: u64 = 64;
+pub const MONITOR_FACTOR: u64 = 128;
+/// The age of a slot's last use.
+pub const MAX_AGE: u64 = 33_000_000;
+
+pub const MAX_CLOCK: u64 = 1 << 62;
+/// Delays, intervals and steps of the clock are at most this many microseconds.
+pub const MAX_STEP: u64 = (1 << 32) - 1;
+pub const MAX_WAIT: i64 = (1 << 31) - 1;
+pub const MAX_DUE: u64 = (1 << 62) + (1 << 32);
+pub const MAX_DEADLINE: u64 = (1 << 62) + (1 << 41);
+
+pub const MAX_PRIORITY: u64 = 3;
+pub const MAX_PAYLOAD: usize = 252;
+pub const ENTRY_BYTES: u64 = 256;
+pub const HEADER_BYTES: u64 = 4;
+
+pub const ANY_SENDER: u64 = 4_294_967_295;
+pub const ANY_CLASS: u64 = 15;
+pub const ANY_TAG: u64 = 134_217_727;
+
+pub const NOTIFY: u64 = 0;
+pub const TIMER: u64 = 3;
+pub const EXIT: u64 = 4;
+/// The largest class that is named; 15 stands for any.
+pub const LAST_CLASS: u64 = 4;
+
+pub const MAX_REASON: u64 = 65_535;
+
+/// Capacities in the order of the pool table: actors, mailboxes, data, links, monitors, timers.
+pub type Capacities = [u64; 6];
+
+pub fn in_range(caps: &Capacities) -> bool {
+    (0..6).all(|i| SMALLEST[i] <= caps[i] && caps[i] <= LARGEST[i])
+}
+
+/// The table's words for capacities in range.
+pub fn words_needed(caps: &Capacities) -> u64 {
+    24 + 10 * caps[0] + 3 * caps[1] + 2 * caps[2] + 2 * caps[3] + 3 * caps[4] + 4 * caps[5]
+}
+
+/// The payload area's bytes for capacities in range.
+pub fn bytes_needed(caps: &Capacities) -> u64 {
+    ENTRY_BYTES * caps[2]
+}
