@@ -1,8 +1,6 @@
 -- What the reckoning keeps: who and what is there. Things go by their ids, never by where they are kept. Assumes nothing.
-use Prim.Native.Nat.{ℕ, _%_, _/_}
-use mathlib.Core.Bool.{Bool, _&&_, _||_, not}
+use Prim.Native.Nat.{ℕ}
 use mathlib.Core.List.{List, []}
-use lib.Dec.{eqb}
 use Rattle.ledger.specs.Call.{Sizes}
 
 pub record Actor : Type 0 where

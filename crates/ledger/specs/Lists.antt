@@ -1,8 +1,8 @@
 -- Lists of things, as a person reckons with them. Assumes nothing.
 use Prim.Native.Nat.{ℕ, zero, suc, _%_, _/_}
-use mathlib.Core.Bool.{Bool, true, false, cond, _&&_, _||_}
+use mathlib.Core.Bool.{Bool, false, cond, _||_}
 use mathlib.Core.List.{List, [], _∷_, _++_}
-use lib.Dec.{eqb, ltb}
+use lib.Dec.{eqb}
 
 module _ {A : Type 0} where
   -- those that pass, in their order

@@ -1,13 +1,13 @@
 -- The reckoning: what a call and its answer change of what is there. Refused calls change nothing. Assumes nothing.
-use Prim.Native.Nat.{ℕ, zero, suc, _+_, _*_, _/_, _%_}
+use Prim.Native.Nat.{ℕ, zero, suc, _+_, _/_, _%_}
 use mathlib.Core.Bool.{Bool, cond, not, _&&_, _||_}
 use mathlib.Core.List.{List, [], _∷_, _++_, map}
 use lib.ListN.{take}
 use lib.Dec.{eqb, ltb, leb}
 use Rattle.ledger.specs.Lists.{those, some, first, butFirst, bySlot, bytes}
-use Rattle.ledger.specs.Call.{Answer, Call, Line, number, told}
+use Rattle.ledger.specs.Call.{Call, Line, number, told}
 use Rattle.ledger.specs.Call.Call.{start, spawn, next, yield, notify, receive, show, shown, after, every, cancel, link, unlink, monitor, demonitor, exit, advance, report}
-use Rattle.ledger.specs.Ledger.{Actor, Ledger, Link, Message, Monitor, Timer, mail, nothing, people, ties, time, withMail, withPeople, withTies, withTime}
+use Rattle.ledger.specs.Ledger.{Ledger, Link, Message, Monitor, Timer, mail, nothing, people, ties, time, withMail, withPeople, withTies, withTime}
 
 -- ---- ids: "An actor or timer id is age × 64 + slot, a monitor id age × 128 + slot"
 -- "at most 33,000,000; after that use ends the slot is worn": the slots that are worn once the uses of these ids end

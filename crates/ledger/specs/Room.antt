@@ -1,9 +1,7 @@
 -- From the reckoning alone: how much room each pool has left, how much each call needs, and when "no room" is due. Assumes nothing.
 use Prim.Native.Nat.{ℕ, _+_, _-_, _^_}
-use mathlib.Core.Bool.{Bool, true, false, cond, not, _&&_, _||_}
-use mathlib.Core.List.{List}
+use mathlib.Core.Bool.{Bool, false, not, _&&_, _||_}
 use lib.ListN.{length}
-use lib.IntN.{ℤ}
 use lib.Dec.{eqb, ltb, leb}
 use Rattle.ledger.specs.Lists.{some}
 use Rattle.ledger.specs.Call.{Call}

@@ -1,7 +1,7 @@
 -- A sound state, rule by rule: the invariant that every call keeps. Each field reads few columns, so that a call that writes others passes it on. Assumes nothing.
-use Prim.Native.Nat.{ℕ, _+_, _*_, _≤_, _<_}
+use Prim.Native.Nat.{ℕ, _<_}
 use mathlib.Core.Path.{_≡_}
-use mathlib.Core.List.{List, []}
+use mathlib.Core.List.{[]}
 use Rattle.tables.specs.declared.Caps.{Caps}
 use Rattle.tables.specs.Columns.{DATA-FREE, MAIL-FREE}
 use Rattle.tables.specs.State.{State, InRange}

@@ -1,13 +1,13 @@
 -- A host call, for any rule: the two ways through it, that no second answer meets its promise, and when it answers 7. Assumes nothing.
 use Prim.Native.Nat.{ℕ}
 use mathlib.Core.Path.{_≡_, refl, sym, ap, _∙_}
-use mathlib.Core.Bool.{Bool, true, false, cond}
+use mathlib.Core.Bool.{Bool, true, false}
 use mathlib.Core.List.{List}
 use Rattle.tables.specs.declared.Caps.{Caps}
 use Rattle.tables.specs.State.{State, view, capsOf, joinW, joinP, Left, Room}
 use Rattle.tables.proofs.ViewLaws.{join-view}
 use Rattle.rules.specs.Rule.{test, Holds}
-use Rattle.rules.specs.Sound.{fitRule, rangeRule, soundAt, soundRule, viewOf, Ready}
+use Rattle.rules.specs.Sound.{fitRule, rangeRule, soundRule, viewOf, Ready}
 use Rattle.rules.specs.Calls.{Out}
 use Rattle.rules.specs.Host.{Called, Started, canStart, fresh}
 use Rattle.rules.proofs.RuleLaws.{and-same, reads, broken}

@@ -1,15 +1,14 @@
 -- A host call leaves a sound runtime sound, for every rule that keeps `Good`: so after a start no call answers 7. Assumes nothing.
 use Prim.Native.Nat.{ℕ, zero, suc, _+_, _<_}
 use native.Mathlib.Omega.{arith}
-use mathlib.Core.Path.{_≡_, refl, sym, ap, _∙_}
-use mathlib.Core.Bool.{true}
+use mathlib.Core.Path.{_≡_, refl, _∙_}
 use mathlib.Core.List.{List, [], _∷_, _++_}
 use lib.ListN.{length, getD, List·getD-append}
 use lib.Dec.{lit<}
 use Rattle.tables.specs.declared.Caps.{Caps}
 use Rattle.tables.specs.State.{State, capsOf, glue, joinP, joinW}
 use Rattle.tables.proofs.ViewLaws.{view-join, view-past}
-use Rattle.rules.specs.Rule.{Holds, test}
+use Rattle.rules.specs.Rule.{Holds}
 use Rattle.rules.specs.Sound.{soundRule, viewOf}
 use Rattle.rules.specs.Calls.{Out}
 use Rattle.rules.specs.Host.{Called}

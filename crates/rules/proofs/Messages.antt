@@ -6,12 +6,12 @@ use mathlib.Core.Path.{_≡_, refl, sym, ap, subst, _∙_, fun-ext}
 use mathlib.Core.Bool.{true, false, not, _&&_, _||_}
 use mathlib.Core.List.{List, _++_, map}
 use mir.Val.{boolByte}
-use lib.ListN.{length, getD, set, take, drop, replicate, length-map, length-replicate, getD-replicate, List·getD-eq-default}
+use lib.ListN.{length, getD, set, take, replicate, length-map, length-replicate, getD-replicate, List·getD-eq-default}
 use lib.Seq.{getD-set-same, getD-take, length-take-le, sets}
 use lib.IntN.{ℤ, pos, negsuc}
 use lib.Dec.{eqb, ltb, leb, lit<}
 use borrow.Author.Tests.{eqb-true, eqb-false, eq-eqb, le-ltb, leb-false, leb-true, lt-ltb, ltb-true, ltb-false, ne-eqb, not-true}
-use Rattle.pools.specs.Pool.{lowest, occurs, Exact}
+use Rattle.pools.specs.Pool.{occurs, Exact}
 use Rattle.pools.specs.Slot.{slotOf}
 use Rattle.pools.proofs.SlotLaws.{age-of-id, id-pos, of-live, slot-of-id}
 use Rattle.pools.specs.Bits.{free, taken, released}

@@ -12,7 +12,7 @@ use lib.Seq.{getD-set-same, getD-take, length-take-le, take-at, take-suc-set}
 use lib.IntN.{ℤ}
 use lib.Dec.{eqb, ltb, leb, lit<}
 use borrow.Author.Tests.{eqb-true, eqb-false, eq-eqb, le-leb, le-ltb, leb-false, leb-true, lt-leb, lt-ltb, ltb-true, ltb-false, ne-eqb, not-true}
-use Rattle.ledger.specs.Lists.{those, some, first, butFirst}
+use Rattle.ledger.specs.Lists.{those, first, butFirst}
 use Rattle.ledger.specs.Ledger.{Ledger, Message, Timer, mail, withMail}
 use Rattle.ledger.specs.Call.Answer.{plain}
 use Rattle.ledger.specs.Call.Call.{notify, receive}

@@ -1,18 +1,17 @@
 -- What soundness gives to a proof that has it as a premise. Assumes nothing.
-use Prim.Native.Nat.{ℕ, _≤_, _<_}
-use native.Mathlib.Omega.{arith}
+use Prim.Native.Nat.{ℕ}
 use mathlib.Core.Path.{_≡_}
-use mathlib.Core.Bool.{Bool, _&&_}
+use mathlib.Core.Bool.{_&&_}
 use mathlib.Core.List.{List}
 use lib.ListN.{length}
 use lib.Dec.{leb}
 use borrow.Author.Tests.{leb-true, le-leb}
 use Rattle.tables.specs.declared.Caps.{Caps}
 use Rattle.tables.specs.Columns.{PAYLOAD}
-use Rattle.tables.specs.State.{State, size, needed, neededP, view, InRange, Room}
+use Rattle.tables.specs.State.{size, needed, neededP, view, InRange, Room}
 use Rattle.tables.proofs.ViewLaws.{view-full, full-view, view-fullP, full-viewP}
-use Rattle.rules.specs.Rule.{Rule, both, each, eq, test, Holds}
-use Rattle.rules.specs.Sound.{rangeRule, sizeRule, fitRule, plainRules, lateRules, soundAt, Ready}
+use Rattle.rules.specs.Rule.{each, eq, test, Holds}
+use Rattle.rules.specs.Sound.{rangeRule, sizeRule, fitRule, soundAt, Ready}
 use Rattle.rules.proofs.RuleLaws.{and-same, same-test}
 
 -- every column has its size exactly where both buffers are long enough

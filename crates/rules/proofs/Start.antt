@@ -3,14 +3,13 @@ use Prim.Native.Nat.{ℕ, zero, suc, _+_, _-_, _*_, _/_, _%_, _^_, _≤_, _<_, m
 use native.Mathlib.Nat.{pow-suc}
 use native.Mathlib.Omega.{arith}
 use mathlib.Core.Path.{_≡_, refl, sym, ap, _∙_}
-use mathlib.Core.Bool.{Bool, true, false, cond, not, _&&_}
-use mathlib.Core.List.{List, [], _∷_, _++_, map}
-use mir.Val.{boolByte}
-use lib.ListN.{length, getD, take, replicate, length-replicate, List·getD-eq-default}
-use lib.Dec.{eqb, ltb, leb}
+use mathlib.Core.Bool.{true, not, _&&_}
+use mathlib.Core.List.{List, [], _∷_}
+use lib.ListN.{length, getD, replicate, length-replicate, List·getD-eq-default}
+use lib.Dec.{ltb, leb}
 use borrow.Author.Tests.{ne-eqb, lt-ltb, le-ltb, ltb-true, ltb-false, leb-true}
 use Rattle.ledger.specs.Ledger.{nothing}
-use Rattle.pools.specs.Pool.{occurs, Exact}
+use Rattle.pools.specs.Pool.{occurs}
 use Rattle.pools.specs.Bits.{bit, free}
 use Rattle.pools.proofs.BoolLaws.{split, true-false, and-left, and-right}
 use Rattle.tables.specs.declared.Caps.{Caps}

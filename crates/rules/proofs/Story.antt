@@ -1,13 +1,10 @@
 -- DEMAND 3, for any list of calls after a successful start: the promises of the calls are the steps. Assumes nothing.
-use Prim.Native.Nat.{ℕ, suc, _≤_}
-use native.Mathlib.Omega.{arith}
-use mathlib.Core.Path.{_≡_, refl, sym, ap, _∙_, subst}
-use mathlib.Core.Logic.{_↔_}
-use mathlib.Core.Bool.{Bool, true, false, cond}
-use mathlib.Core.List.{List, [], _∷_}
+use Prim.Native.Nat.{ℕ}
+use mathlib.Core.Path.{_≡_, sym, subst}
+use mathlib.Core.List.{List}
 use native.Mathlib.Decide.{ℕ-discrete}
-use Rattle.ledger.specs.Call.{Answer, Call, Line, Sizes, number}
-use Rattle.ledger.specs.Call.Answer.{plain, part}
+use Rattle.ledger.specs.Call.{Answer, Call, Line, Sizes}
+use Rattle.ledger.specs.Call.Answer.{plain}
 use Rattle.ledger.specs.Call.Call.{start, spawn, next, yield, notify, receive, show, shown, after, every, cancel, link, unlink, monitor, demonitor, exit, advance, report}
 use Rattle.ledger.specs.Ledger.{Ledger, nothing}
 use Rattle.ledger.specs.Reckon.{done, entered, reckon}
@@ -16,7 +13,7 @@ use Rattle.tables.specs.State.{State, capsOf}
 use Rattle.rules.specs.Rule.{Holds}
 use Rattle.rules.specs.Sound.{soundRule, viewOf}
 use Rattle.rules.specs.Calls.{Out}
-use Rattle.rules.specs.Agrees.{Agrees, sizesOf}
+use Rattle.rules.specs.Agrees.{Agrees}
 use Rattle.rules.specs.Story.{Begun, Meets, Promised, Story, capsFrom}
 use Rattle.rules.proofs.Advance.{advance-agrees, advance-keeps}
 use Rattle.rules.proofs.Exit.{exit-keeps}

@@ -14,7 +14,7 @@ use Rattle.pools.proofs.PoolLaws.{lowest-at, lowest-first}
 use Rattle.pools.proofs.SlotLaws.{age-of-id, live-is, of-live, of-usable, slot-of-id}
 use Rattle.tables.specs.declared.Caps.{Caps}
 use Rattle.tables.specs.Columns.{AGE, CLOCK, DUE, INTERVAL, LINK-ONE, LINK-TWO, MONITOR-AGE, STATE, TIMER-AGE, TIMER-OWNER, WATCHED, WATCHER}
-use Rattle.tables.specs.State.{State, at, head, with-col, poke, size}
+use Rattle.tables.specs.State.{State, at, head, with-col, poke}
 use Rattle.tables.proofs.ViewLaws.{Sized}
 use Rattle.tables.proofs.ActionLaws.{sized-poke}
 use Rattle.rules.specs.Rule.{Holds}

@@ -1,5 +1,5 @@
 -- What the calls do to the tables, action by action. Each is a change of a few columns. Assumes nothing.
-use Prim.Native.Nat.{ℕ, zero, suc, _+_, _-_, _*_}
+use Prim.Native.Nat.{ℕ, zero, suc, _+_, _-_}
 use mathlib.Core.Bool.{Bool, cond, not, _&&_, _||_}
 use mathlib.Core.List.{List}
 use lib.ListN.{length}
@@ -9,10 +9,10 @@ use Rattle.pools.specs.Bits.{free}
 use Rattle.records.specs.Bytes.{le}
 use Rattle.records.specs.Header.{classOf, tagOf}
 use Rattle.tables.specs.declared.Caps.{Caps}
-use Rattle.tables.specs.Columns.{ARRIVAL, ARRIVED, DATA-FREE, DEADLINE, DUE, HAND, INTERVAL, LENGTH, MAIL-DATA, MAIL-FREE, MAIL-OWNER, QUEUE, QUEUED, REASON, RUNNING, SENDER, STATE, TIMER-OWNER, WANT-CLASS, WANT-SENDER, WANT-TAG}
+use Rattle.tables.specs.Columns.{ARRIVAL, ARRIVED, DATA-FREE, DEADLINE, HAND, LENGTH, MAIL-DATA, MAIL-FREE, MAIL-OWNER, QUEUE, QUEUED, REASON, RUNNING, SENDER, STATE, WANT-CLASS, WANT-SENDER, WANT-TAG}
 use Rattle.tables.specs.State.{State, at, head, poke}
 use Rattle.tables.specs.Action.{push, pull, takeBit, freeBit, write, blank}
-use Rattle.rules.specs.Terms.{RUNNABLE, WAITS, fits, header}
+use Rattle.rules.specs.Terms.{RUNNABLE, WAITS, fits}
 
 -- ---- running
 -- "Whoever becomes runnable joins the tail of its level"

@@ -1,9 +1,8 @@
 -- The rule of every call: its answer and the state it leaves. "Tests go in the order 7, 4, 1, 3, 2." Assumes nothing.
 use Prim.Native.Nat.{ℕ, zero, suc, _+_, _-_, _*_, _^_, min}
-use mathlib.Core.Path.{_≡_}
 use mathlib.Core.Bool.{Bool, false, cond, not, _&&_, _||_}
 use mathlib.Core.List.{List, [], _∷_}
-use lib.ListN.{length, getD}
+use lib.ListN.{length}
 use lib.IntN.{ℤ, pos, negsuc}
 use lib.Dec.{eqb, ltb, leb}
 use Rattle.pools.specs.Pool.{lowest, count}
@@ -23,7 +22,7 @@ use Rattle.rules.specs.declared.Ended.{Ended}
 use Rattle.rules.specs.declared.Advanced.{Advanced}
 use Rattle.rules.specs.declared.Report.{Report}
 use Rattle.rules.specs.Terms.{ANY-TAG, CLOCK-END, FREE, LONGEST, OLDEST, PAYLOAD-MOST, RUNS, WAITS, actorId, fits, header, isActor, isMonitor, isTimer, joins, legal, monitorId, runner, runnerId, timerId}
-use Rattle.rules.specs.Actions.{dataFor, delist, due, earliest, halt, hasRoom, letGo, mailFor, post, ready, unfill, wake}
+use Rattle.rules.specs.Actions.{delist, earliest, halt, hasRoom, letGo, post, ready, unfill, wake}
 
 -- an answer, and the state that is left
 pub record Out (A : Type 0) : Type 0 where

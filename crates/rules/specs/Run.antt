@@ -1,9 +1,8 @@
 -- A run of calls on a state: the calls with their answers, and the state after them. Assumes nothing.
 use Prim.Native.Nat.{ℕ, _+_, _-_, _*_}
-use mathlib.Core.Bool.{Bool, cond}
+use mathlib.Core.Bool.{cond}
 use mathlib.Core.List.{List, [], _∷_, map}
 use lib.ListN.{take, drop}
-use lib.IntN.{pos}
 use lib.Dec.{eqb}
 use Rattle.ledger.specs.Call.{Answer, Call, Line}
 use Rattle.ledger.specs.Call.Answer.{plain, made, turn, received, part, place, ended, advanced, counts}

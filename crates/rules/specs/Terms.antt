@@ -1,13 +1,13 @@
 -- The words of document 01 in terms of the tables. Assumes nothing.
-use Prim.Native.Nat.{ℕ, _+_, _-_, _*_, _^_}
+use Prim.Native.Nat.{ℕ, _-_, _*_, _^_}
 use mathlib.Core.Bool.{Bool, _&&_, _||_, not}
 use mathlib.Core.List.{List}
 use lib.ListN.{getD}
-use lib.Dec.{eqb, ltb, leb}
+use lib.Dec.{eqb, leb}
 use Rattle.pools.specs.Slot.{idOf, isLive, unused}
 use Rattle.records.specs.Bytes.{field}
-use Rattle.records.specs.Header.{classOf, markOf, tagOf}
-use Rattle.tables.specs.Columns.{AGE, HAND, LENGTH, LINK-ONE, LINK-TWO, MAIL-DATA, MAIL-OWNER, MONITOR-AGE, PAYLOAD, PRIORITY, RUNNING, SENDER, STATE, TIMER-AGE, TIMER-OWNER, WANT-CLASS, WANT-SENDER, WANT-TAG, WATCHER}
+use Rattle.records.specs.Header.{classOf, tagOf}
+use Rattle.tables.specs.Columns.{AGE, MONITOR-AGE, PAYLOAD, RUNNING, SENDER, STATE, TIMER-AGE, TIMER-OWNER, WANT-CLASS, WANT-SENDER, WANT-TAG, WATCHER}
 use Rattle.tables.specs.State.{State, at, head}
 
 -- ---- limits
