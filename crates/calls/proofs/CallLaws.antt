@@ -11,7 +11,7 @@ use borrow.Author.Tests.{eq-eqb, ne-eqb, lt-ltb, le-ltb, eqb-true, eqb-false, lt
 use Rattle.pools.proofs.BoolLaws.{split, true-false}
 use Rattle.tables.specs.declared.Caps.{Caps}
 use Rattle.pools.specs.Bits.{free}
-use Rattle.tables.specs.Columns.{AGE, ARRIVED, CLOCK, DATA-FREE, DEADLINE, DUE, HAND, LENGTH, MAIL-DATA, MAIL-FREE, MONITOR-AGE, PAYLOAD, TIMER-AGE, TIMER-OWNER}
+use Rattle.tables.specs.Columns.{AGE, ARRIVED, CLOCK, DATA-FREE, DEADLINE, DUE, HAND, LENGTH, MAIL-DATA, MAIL-FREE, MONITOR-AGE, PAYLOAD, REST, TIMER-AGE, TIMER-OWNER}
 use Rattle.tables.specs.State.{State, at, cut, head, poke, size, view, with-col, Room}
 use Rattle.tables.specs.Action.{freeBit, write}
 use Rattle.rules.specs.Actions.{letGo, unfill}
@@ -75,7 +75,7 @@ refused e f h = rw (← e, ← f) h
 -- ---- numbers of a good state
 module _ {k : Caps} {s : State} (g : Good k s) where
   -- what holds of every word that a column has, and of 0, holds of every number
-  every-word : (c n : ℕ) → c < 42 → ((i : ℕ) → i < size k c → at s c i ≤ n) → (i : ℕ) → at s c i ≤ n
+  every-word : (c n : ℕ) → c < REST → ((i : ℕ) → i < size k c → at s c i ≤ n) → (i : ℕ) → at s c i ≤ n
   every-word c n h f i =
       split (ltb i (size k c))
       (λ q. f i (ltb-true i (size k c) q))

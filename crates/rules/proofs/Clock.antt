@@ -4,7 +4,7 @@ use Prim.Native.Nat.{ℕ, zero, suc, _+_, _-_, _^_, _≤_, _<_}
 use native.Mathlib.Omega.{arith}
 use mathlib.Core.Path.{_≡_, refl, sym, ap, subst, _∙_, fun-ext}
 use mathlib.Core.Bool.{Bool, true, false, not}
-use mathlib.Core.List.{List}
+use mathlib.Core.List.{List, [], _∷_}
 use lib.ListN.{length, getD, set, length-set}
 use lib.Seq.{getD-set-same, getD-set-other, set-set, set-getD}
 use lib.Dec.{eqb, leb, lit<}
@@ -15,17 +15,22 @@ use Rattle.pools.specs.Pool.{count}
 use Rattle.pools.proofs.BoolLaws.{split, and-left}
 use Rattle.pools.proofs.PoolLaws.{count-change, count-le, count-some}
 use Rattle.tables.specs.declared.Caps.{Caps}
-use Rattle.tables.specs.Columns.{CLOCK, DATA-FREE, DEADLINE, DUE, INTERVAL, MAIL-FREE, STATE, TIMER-OWNER, WANT-CLASS, WANT-SENDER, WANT-TAG}
+use Rattle.tables.specs.Columns.{CLOCK, DATA-FREE, DEADLINE, DUE, INTERVAL, MAIL-FREE, PAYLOAD, STATE, TIMER-OWNER, WANT-CLASS, WANT-SENDER, WANT-TAG}
 use Rattle.tables.specs.State.{State, at, head, with-col, poke}
 use Rattle.tables.specs.Action.{push, takeBit, write}
 use Rattle.tables.proofs.ViewLaws.{Sized}
-use Rattle.tables.proofs.ActionLaws.{sized-poke, with-other}
+use Rattle.tables.proofs.ActionLaws.{with-other}
 use Rattle.rules.specs.Terms.{CLOCK-END, WAITS}
 use Rattle.rules.specs.Sound.{pairRule}
 use Rattle.rules.specs.Actions.{dataFor, due, earliest, enlist, fill, hears, mailFor, post, ready, stir, unwait, wake}
 use Rattle.rules.specs.Agrees.{Agrees}
 use Rattle.rules.specs.Calls.{disarm, rearm, rouse}
+use Rattle.rules.proofs.AgreeLaws.{agrees-time}
+use Rattle.rules.proofs.Frame.{Wrote, wrote-none, wrote-poke, wrote-sized}
+use Rattle.rules.proofs.Frames.{wrote-disarm, wrote-post, wrote-ready, wrote-rearm, wrote-unwait}
 use Rattle.rules.proofs.Good.{Good}
+use Rattle.rules.proofs.Part
+use Rattle.rules.proofs.Patch.{_by_also_, done, patch}
 use Rattle.rules.proofs.LeastLaws.{Least, least-is}
 use Rattle.rules.proofs.Rearm.{redue-keeps}
 use Rattle.rules.proofs.Running.{wake-keeps}
@@ -64,7 +69,7 @@ module _ (s : State) (c : ℕ) where
   -- bytes written
   pub clock-write : (d i : ℕ) (m : List ℕ) → write (atClock s c) d i m ≡ atClock (write s d i m) c
   unfolding write
-  clock-write d i m = rw (clock-read 43 refl) (clock-with 43 _ refl)
+  clock-write d i m = rw (clock-read PAYLOAD refl) (clock-with PAYLOAD _ refl)
 
 -- one joins a list
 pub clock-push : (s : State) (c list n v : ℕ) → eqb list CLOCK ≡ false → eqb n CLOCK ≡ false → push (atClock s c) list n v ≡ atClock (push s list n v) c
@@ -110,39 +115,15 @@ clock-post k s c a sender h payload =
 -- and the clock stays
 -- where an actor wakes
 pub wake-clock : (s : State) (a reason : ℕ) → wake s a reason CLOCK ≡ s CLOCK
-unfolding ready unwait push poke with-col
-wake-clock s a reason = refl
-
--- where one hears a message, or does not
-stir-clock : (s : State) (a sender h : ℕ) → stir s a sender h CLOCK ≡ s CLOCK
-unfolding stir
-stir-clock s a sender h = split (hears s a sender h) (λ q. rw q (wake-clock s a 1)) (λ q. rw q)
-
--- where a message is filled in
-joined-clock : (s : State) (e a d sender h : ℕ) (payload : List ℕ) → enlist (fill s d sender h payload) e a d CLOCK ≡ s CLOCK
-unfolding enlist fill push takeBit write poke with-col
-joined-clock s e a d sender h payload = refl
+wake-clock s a reason = wrote-ready (wrote-unwait (wrote-none s) a) a reason .cols CLOCK refl
 
 -- where a message arrives
 pub post-clock : (k : Caps) (s : State) (a sender h : ℕ) (payload : List ℕ) → post k s a sender h payload CLOCK ≡ s CLOCK
-unfolding post
-post-clock k s a sender h payload =
-    stir-clock (enlist (fill s (dataFor k s) sender h payload) (mailFor k s) a (dataFor k s)) a sender h ∙ joined-clock s (mailFor k s) a (dataFor k s) sender h payload
+post-clock k s a sender h payload = wrote-post k s a sender h payload .cols CLOCK refl
 
--- where a timer ends
-pub disarm-clock : (s : State) (i : ℕ) → disarm s i CLOCK ≡ s CLOCK
-unfolding disarm poke with-col
-disarm-clock s i = refl
-
--- where it is due again
-pub due-clock : (s : State) (i t : ℕ) → poke s DUE i t CLOCK ≡ s CLOCK
-unfolding poke with-col
-due-clock s i t = refl
-
--- where it fires
+-- where a timer fires
 pub rearm-clock : (s : State) (i : ℕ) → rearm s i CLOCK ≡ s CLOCK
-unfolding rearm
-rearm-clock s i = split (eqb (at s INTERVAL i) 0) (λ q. rw q (disarm-clock s i)) (λ q. rw q (due-clock s i (head s CLOCK + at s INTERVAL i)))
+rearm-clock s i = wrote-rearm s i .cols CLOCK refl
 
 -- ---- to another clock and back
 pub clock-back : (s : State) (c : ℕ) → atClock (atClock s c) (head s CLOCK) ≡ s
@@ -169,11 +150,11 @@ module _ (k : Caps) (c : ℕ) (s : State) (h : Late k c s) where
   -- every column has its size
   pub late-sized : Sized k s
   unfolding atClock
-  late-sized = subst (λ (x : State). Sized k x) (clock-back s c) (sized-poke k (atClock s c) CLOCK 0 (head s CLOCK) (h .good .sized))
+  late-sized = subst (λ (x : State). Sized k x) (clock-back s c) (wrote-sized k (wrote-poke (wrote-none (atClock s c)) CLOCK 0 (head s CLOCK)) (h .good .sized))
 
   -- the clock has one word
   pub late-word : length (s CLOCK) ≡ 1
-  late-word = late-sized .words 6 (lit< tt)
+  late-word = late-sized .words CLOCK (lit< tt)
 
   -- what an action leaves that does not notice the clock
   pub late-then : (u : State) → Good k (atClock u c) → u CLOCK ≡ s CLOCK → Late k c u
@@ -189,10 +170,10 @@ module _ (k : Caps) (c : ℕ) (s : State) (h : Late k c s) where
       let o : at (atClock s c) TIMER-OWNER i ≡ 0 → ⊥ = rw (clock-read s c TIMER-OWNER refl) u in
       let w : at s INTERVAL i ≤ 2 ^ 32 - 1 = rw (clock-read s c INTERVAL refl) at (g .timers i l .1 .1 o .1 .1) in
       split (eqb (at s INTERVAL i) 0)
-      (λ q. rw q (late-then (disarm s i) (rw (clock-disarm s c i) at (disarm-keeps k (atClock s c) i g l)) (disarm-clock s i)))
+      (λ q. rw q (late-then (disarm s i) (rw (clock-disarm s c i) at (disarm-keeps k (atClock s c) i g l)) (wrote-disarm (wrote-none s) i .cols CLOCK refl)))
       (λ q. rw q (late-then (poke s DUE i (head s CLOCK + at s INTERVAL i))
       (rw (clock-poke s c DUE i (head s CLOCK + at s INTERVAL i) refl) at (redue-keeps k (atClock s c) i (head s CLOCK + at s INTERVAL i) g l o (omega (arith, h .ends))))
-      (due-clock s i (head s CLOCK + at s INTERVAL i))))
+      (wrote-poke (wrote-none s) DUE i (head s CLOCK + at s INTERVAL i) .cols CLOCK refl)))
 
   -- a message that keeps a sound state sound
   pub post-late : (a sender m : ℕ) (payload : List ℕ) → Good k (post k (atClock s c) a sender m payload) → Late k c (post k s a sender m payload)
@@ -213,39 +194,23 @@ module _ (k : Caps) (c : ℕ) (s : State) (h : Late k c s) where
 pub clock-keeps : (k : Caps) (s : State) (micros : ℕ) → Good k s → head s CLOCK + micros ≤ CLOCK-END → Late k (head s CLOCK) (poke s CLOCK 0 (head s CLOCK + micros))
 unfolding atClock
 clock-keeps k s micros g l =
-    let e : head (poke s CLOCK 0 (head s CLOCK + micros)) CLOCK ≡ head s CLOCK + micros = clock-is s (head s CLOCK + micros) (g .sized .words 6 (lit< tt)) in
+    let e : head (poke s CLOCK 0 (head s CLOCK + micros)) CLOCK ≡ head s CLOCK + micros = clock-is s (head s CLOCK + micros) (g .sized .words CLOCK (lit< tt)) in
     record { good = subst (λ (x : State). Good k x) (sym (clock-back s (head s CLOCK + micros))) g; past = omega arith; ends = omega arith }
+
+-- back to the clock that it has
+clock-wrote : (s : State) (c : ℕ) → Wrote (CLOCK ∷ []) (atClock s c) s
+unfolding atClock
+clock-wrote s c = subst (λ (x : State). Wrote (CLOCK ∷ []) (atClock s c) x) (clock-back s c) (wrote-poke (wrote-none (atClock s c)) CLOCK 0 (head s CLOCK))
 
 -- and once nobody's deadline is past it is sound
 pub late-good : (k : Caps) (c : ℕ) (s : State) → Late k c s → ((a : ℕ) → a < k .actors → due s DEADLINE DEADLINE (head s CLOCK) a ≡ false) → Good k s
 unfolding atClock poke with-col pairRule
 late-good k c s h none =
     let g = h .good in
-    record {
-      range = g .range;
-      sized = late-sized k c s h;
-      caps = g .caps;
-      head = ((h .ends, g .head .0 .1), g .head .1);
-      spare = λ i l. rw (ne-eqb (10 + i) CLOCK (λ z. omega arith)) at (g .spare i l);
-      mailBits = g .mailBits;
-      dataBits = g .dataBits;
-      actors = g .actors;
-      idle = g .idle;
-      waits = λ a l. (g .waits a l .0, (g .waits a l .1 .0, λ d. (later a l d, g .waits a l .1 .1 d .1)));
-      runs = g .runs;
-      queue = g .queue;
-      once = g .once;
-      mails = g .mails;
-      arrivals = g .arrivals;
-      arrived = g .arrived;
-      filters = g .filters;
-      datas = g .datas;
-      held = g .held;
-      links = g .links;
-      pairs = g .pairs;
-      monitors = g .monitors;
-      timers = g .timers;
-    }
+    patch k g (clock-wrote s c) (
+    Part.head by (((h .ends, g .head .0 .1), g .head .1)) also
+    Part.waits by (λ a l. (g .waits a l .0, (g .waits a l .1 .0, λ d. (later a l d, g .waits a l .1 .1 d .1)))) also
+    done) refl
   where
     -- who has a deadline has a later one
     later : (a : ℕ) → a < k .actors → (at s DEADLINE a ≡ 0 → ⊥) → head s CLOCK < at s DEADLINE a
@@ -297,7 +262,7 @@ module _ (k : Caps) (c : ℕ) where
   -- one fewer is overdue
   overdue-fewer : (s : State) (b : ℕ) → Late k c s → b < k .actors → overdue s b ≡ true → count (overdue (wake s b 2)) (k .actors) + 1 ≡ count (overdue s) (k .actors)
   overdue-fewer s b h l q =
-      let w = overdue-wake s b (omega (arith, late-sized k c s h .words 26 (lit< tt))) in
+      let w = overdue-wake s b (omega (arith, late-sized k c s h .words DEADLINE (lit< tt))) in
       let e = count-change (overdue s) (overdue (wake s b 2)) b (k .actors) l (w .1) in
       omega (arith, rw (q, w .0) at e)
 
@@ -328,32 +293,7 @@ clockAt l c = withTime l (time c (l .time .timers) (l .time .worn))
 -- and the tables' too
 pub clock-agrees : (k : Caps) (l : Ledger) (s : State) (c : ℕ) → length (s CLOCK) ≡ 1 → Agrees k l s → Agrees k (clockAt l c) (atClock s c)
 unfolding atClock poke with-col
-clock-agrees k l s c h a = record {
-  sizes = a .sizes;
-  clock = sym (clock-is s c h);
-  running = a .running;
-  slots = a .slots;
-  allSlots = a .allSlots;
-  live = a .live;
-  wornSlots = a .wornSlots;
-  allBoxes = a .allBoxes;
-  boxes = a .boxes;
-  palms = a .palms;
-  allPalms = a .allPalms;
-  hands = a .hands;
-  allDatas = a .allDatas;
-  clocks = a .clocks;
-  allClocks = a .allClocks;
-  timers = a .timers;
-  wornClocks = a .wornClocks;
-  bonds = a .bonds;
-  allBonds = a .allBonds;
-  links = a .links;
-  eyes = a .eyes;
-  allEyes = a .allEyes;
-  monitors = a .monitors;
-  wornEyes = a .wornEyes;
-}
+clock-agrees k l s c h a = let w = wrote-poke (wrote-none s) CLOCK 0 c in agrees-time w a _ refl refl (record { clock = sym (clock-is s c h); clocks = a .time .clocks; allClocks = a .time .allClocks; timers = a .time .timers; wornClocks = a .time .wornClocks })
 
 module _ (k : Caps) (c : ℕ) (l : Ledger) (s : State) (h : Late k c s) (a : Agrees k l s) where
   -- at the clock at which the state is sound
@@ -365,7 +305,7 @@ module _ (k : Caps) (c : ℕ) (l : Ledger) (s : State) (h : Late k c s) (a : Agr
   late-back m u e b =
       let q : head u CLOCK ≡ head s CLOCK = ap (λ (x : List ℕ). getD x 0 0) e in
       let w : length (atClock u c CLOCK) ≡ 1 = clock-word u c (rw e (late-word k c s h)) in
-      rw (a .clock, ← q) (subst (λ (x : State). Agrees k (clockAt m (head u CLOCK)) x) (clock-back u c) (clock-agrees k m (atClock u c) (head u CLOCK) w b))
+      rw (a .time .clock, ← q) (subst (λ (x : State). Agrees k (clockAt m (head u CLOCK)) x) (clock-back u c) (clock-agrees k m (atClock u c) (head u CLOCK) w b))
 
   -- a message that keeps the two in step
   pub post-late-agrees : (b sender m : ℕ) (payload : List ℕ) (ms : List Message) →
@@ -394,4 +334,4 @@ rouse-agrees (suc m) k c l s h a =
 pub advance-clock-agrees : (k : Caps) (l : Ledger) (s : State) (micros : ℕ) → Good k s → Agrees k l s →
     Agrees k (withTime l (time (l .time .clock + micros) (l .time .timers) (l .time .worn))) (poke s CLOCK 0 (head s CLOCK + micros))
 unfolding atClock
-advance-clock-agrees k l s micros g a = rw (a .clock) (clock-agrees k l s (head s CLOCK + micros) (g .sized .words 6 (lit< tt)) a)
+advance-clock-agrees k l s micros g a = rw (a .time .clock) (clock-agrees k l s (head s CLOCK + micros) (g .sized .words CLOCK (lit< tt)) a)

@@ -10,10 +10,11 @@ use lib.ListN.{length, take, length-append, length-map}
 use lib.Seq.{length-take-le}
 use lib.Dec.{eqb}
 use borrow.Author.Tests.{eqb-true, eqb-false, ne-eqb, le-ltb}
-use Rattle.ledger.specs.Call.Call.{exit}
+use Rattle.ledger.specs.Call.Call.{op}
+use Rattle.ledger.specs.Call.Op.{exit}
 use Rattle.ledger.specs.Ledger.{Ledger, Link, Message, Monitor}
 use Rattle.ledger.specs.Lists.{those, some, bySlot}
-use Rattle.ledger.specs.Reckon.{cleared, departed, done, endLinks, endMonitors, endTimers, entered, gone, linked, notice, notices}
+use Rattle.ledger.specs.Reckon.{cleared, departed, endLinks, endMonitors, endTimers, entered, gone, linked, notice, notices}
 use Rattle.ledger.specs.Room.{datasLeft, known, mailsLeft}
 use Rattle.pools.specs.Bits.{free}
 use Rattle.pools.proofs.BoolLaws.{split, true-false}
@@ -23,7 +24,7 @@ use Rattle.tables.specs.State.{State, at}
 use Rattle.rules.specs.Terms.{actorId, alive, runner, runnerId}
 use Rattle.rules.specs.Agrees.{Agrees, arrivals, boxAt, handAt, monitorAt}
 use Rattle.rules.specs.Actions.{hasRoom}
-use Rattle.rules.specs.Calls.{Told, exitRule, farewell}
+use Rattle.rules.specs.Calls.{Told, exitRule, farewell, ruled}
 use Rattle.rules.specs.Run.{sayEnded}
 use Rattle.rules.proofs.Good.{Good}
 use Rattle.rules.proofs.LedgerLaws.{bits-left, datas-left, mails-left, room-same, running-is, runner-alive, some-map, some-no}
@@ -128,8 +129,8 @@ module _ (k : Caps) (s : State) (l : Ledger) (g : Good k s) (r : Agrees k l s) (
   -- no monitor does
   pub unwatched-self : some (λ m. eqb (m .target) (actorId s a) && eqb (m .watcher) (actorId s a)) (l .ties .monitors) ≡ false
   unwatched-self =
-      rw (r .monitors, some-map (λ m. eqb (m .target) (actorId s a) && eqb (m .watcher) (actorId s a)) (monitorAt s) (r .eyes))
-      (some-no (λ e. eqb (actorId s (at s WATCHED e - 1)) (actorId s a) && eqb (actorId s (at s WATCHER e - 1)) (actorId s a)) (r .eyes) (λ e o.
+      rw (r .monitors .monitors, some-map (λ m. eqb (m .target) (actorId s a) && eqb (m .watcher) (actorId s a)) (monitorAt s) (r .monitors .eyes))
+      (some-no (λ e. eqb (actorId s (at s WATCHED e - 1)) (actorId s a) && eqb (actorId s (at s WATCHER e - 1)) (actorId s a)) (r .monitors .eyes) (λ e o.
       let c = eye-used k l s s g r e o in
       let h = g .monitors e (c .1) .1 .1 (c .0) in
       rw (up-id k l s g r (at s WATCHED e) a (h .1 .0 .0) (h .1 .0 .1) there, up-id k l s g r (at s WATCHER e) a (h .0 .0) (h .0 .1) there)
@@ -139,8 +140,8 @@ module _ (k : Caps) (s : State) (l : Ledger) (g : Good k s) (r : Agrees k l s) (
 
 -- THE THEOREM: after an exit the reckoning has nothing of the actor that ended
 pub exit-nothing : (reason : ℕ) (k : Caps) (s : State) (l : Ledger) → Good k s → Agrees k l s → eqb (runner s) 0 ≡ false → reason ≤ 65535 →
-    Nothing (l .people .running) (entered (record { call = exit reason; answer = sayEnded (exitRule reason k s .ans) }) l)
-unfolding exitRule entered done
+    Nothing (l .people .running) (entered (record { call = op (exit reason); answer = sayEnded (exitRule reason k s .ans) }) l)
+unfolding ruled entered
 exit-nothing reason k s l g r q h =
     let there = runner-alive k s g q in
     let e = running-is k s g l r q in
@@ -154,18 +155,18 @@ exit-nothing reason k s l g r q h =
 module _ (k : Caps) (s : State) (l : Ledger) (g : Good k s) (r : Agrees k l s) where
   -- the messages are no more than the pools hold
   boxes-fit : length (l .mail .boxes) ≤ l .sizes .mails
-  boxes-fit = rw (r .sizes, r .boxes, length-map (arrivals s) (boxAt s)) (omega (arith, bits-left (k .mails) (free (s MAIL-FREE)) (arrivals s) (r .allBoxes)))
+  boxes-fit = rw (r .sizes, r .mail .boxes, length-map (arrivals s) (boxAt s)) (omega (arith, bits-left (k .mails) (free (s MAIL-FREE)) (arrivals s) (r .mail .allBoxes)))
 
   -- with those in hands, than the data entries
   datas-fit : length (l .mail .boxes) + length (l .mail .hands) ≤ l .sizes .datas
   datas-fit =
-      rw (r .sizes, r .boxes, r .hands, length-map (arrivals s) (boxAt s), length-map (r .palms) (handAt s))
+      rw (r .sizes, r .mail .boxes, r .mail .hands, length-map (arrivals s) (boxAt s), length-map (r .mail .palms) (handAt s))
       (omega (
         arith,
-        bits-left (k .datas) (free (s DATA-FREE)) (map (λ e. at s MAIL-DATA e - 1) (arrivals s) ++ map (λ a. at s HAND a - 1) (r .palms)) (r .allDatas),
-        length-append (map (λ e. at s MAIL-DATA e - 1) (arrivals s)) (map (λ a. at s HAND a - 1) (r .palms)),
+        bits-left (k .datas) (free (s DATA-FREE)) (map (λ e. at s MAIL-DATA e - 1) (arrivals s) ++ map (λ a. at s HAND a - 1) (r .mail .palms)) (r .mail .allDatas),
+        length-append (map (λ e. at s MAIL-DATA e - 1) (arrivals s)) (map (λ a. at s HAND a - 1) (r .mail .palms)),
         length-map (arrivals s) (λ e. at s MAIL-DATA e - 1),
-        length-map (r .palms) (λ a. at s HAND a - 1),
+        length-map (r .mail .palms) (λ a. at s HAND a - 1),
       ))
 
   -- where there is no room one of the pools is full
@@ -192,7 +193,7 @@ most k l ns p q t g r =
 -- "A notice for which either message pool is empty is lost", and no other: once the actor's hand and mailbox are freed
 pub exit-sent : (reason : ℕ) (k : Caps) (s : State) (l : Ledger) → Good k s → Agrees k l s → eqb (runner s) 0 ≡ false → reason ≤ 65535 →
     exitRule reason k s .ans .sent ≡ min (length (notices l (l .people .running) reason)) (min (mailsLeft (cleared (l .people .running) l)) (datasLeft (cleared (l .people .running) l)))
-unfolding exitRule
+unfolding ruled
 exit-sent reason k s l g r q h =
     let a = runner s - 1 in
     let run : runner s ≡ suc a = omega (arith, eqb-false (runner s) 0 q) in

@@ -12,23 +12,28 @@ use lib.Dec.{eqb, ltb, lit<}
 use borrow.Author.Tests.{eqb-true, eqb-false, eq-eqb, ne-eqb, lt-ltb, le-ltb}
 use Rattle.pools.proofs.BoolLaws.{split, true-false, flag-eq}
 use Rattle.pools.proofs.SlotLaws.{slot-of-id}
+use Rattle.ledger.specs.Call.Op.{exit}
 use Rattle.tables.specs.declared.Caps.{Caps}
 use Rattle.tables.specs.Columns.{AGE, ARRIVED, HAND, LINK-ONE, LINK-TWO, MAIL-OWNER, PAYLOAD, PRIORITY, RUNNING, STATE, TIMER-OWNER, WATCHED, WATCHER}
 use Rattle.tables.specs.State.{State, at, head, poke, with-col}
 use Rattle.tables.specs.Action.{freeBit}
 use Rattle.tables.proofs.ViewLaws.{Sized}
-use Rattle.tables.proofs.ActionLaws.{sized-poke}
 use Rattle.rules.specs.Rule.{Holds}
 use Rattle.rules.specs.Terms.{FREE, RUNS, WAITS, actorId, alive, isActor, joins, runner, runnerId}
 use Rattle.rules.specs.Sound.{actorRule, endsRule, idleRule, onceRule, pairRule}
 use Rattle.rules.specs.Actions.{letGo}
-use Rattle.rules.specs.Calls.{cutLinks, dropAll, dropMonitors, dropTimers, exitRule, farewell, leave, told}
+use Rattle.rules.specs.Calls.{cutLinks, dropAll, dropMonitors, dropTimers, exitRule, farewell, leave, ruled, told}
+use Rattle.rules.proofs.Claims.{Keeps}
+use Rattle.rules.proofs.Frame.{wrote-none}
+use Rattle.rules.proofs.Frames.{beside-dropAll, wrote-leave, wrote-letGo}
 use Rattle.rules.proofs.Good.{Good}
-use Rattle.rules.proofs.ColumnLaws.{alive-below, alive-other, each-set, other, set-zero, spare-same}
+use Rattle.rules.proofs.Part
+use Rattle.rules.proofs.Patch.{_by_also_, done, patch}
+use Rattle.rules.proofs.ColumnLaws.{alive-below, alive-other, each-set, other, set-zero}
 use Rattle.rules.proofs.Ids.{id-free}
 use Rattle.rules.proofs.TieLaws.{below, used-inside}
 use Rattle.rules.proofs.Ties.{dropMonitors-ends, dropMonitors-keeps, dropMonitors-none, dropTimers-ends, dropTimers-keeps, dropTimers-none}
-use Rattle.rules.proofs.Messages.{dropAll-else, dropAll-empties, dropAll-keeps, letGo-else, letGo-empty, letGo-keeps, unfill-is, unfilled, wipe}
+use Rattle.rules.proofs.Messages.{dropAll-empties, dropAll-keeps, letGo-empty, letGo-keeps, unfill-is, unfilled, wipe}
 use Rattle.rules.proofs.ExitLaws.{Cut, Going, Unseen, cut-none, cutLinks-cuts, cutMonitors-cuts, unseen-none}
 
 -- ---- slot a owns nothing, and nothing is aimed at it
@@ -59,41 +64,28 @@ leave-keeps k s a g run bare =
     let is : getD (set (s STATE) a 0) a 0 ≡ 0 = set-zero (s STATE) a in
     let level : getD (set (s PRIORITY) a 0) a 0 ≡ 0 = set-zero (s PRIORITY) a in
     let z : getD (set (s RUNNING) 0 0) 0 0 ≡ 0 = set-zero (s RUNNING) 0 in
-    record {
-      range = g .range;
-      sized = sized-poke k _ PRIORITY a 0 (sized-poke k _ STATE a 0 (sized-poke k s RUNNING 0 0 (g .sized)));
-      caps = g .caps;
-      head = rw z ((g .head .0 .0, omega arith), g .head .1);
-      spare = spare-same s (leave s a) (refl, refl, refl, refl, refl, refl) (g .spare);
-      mailBits = g .mailBits;
-      dataBits = g .dataBits;
-      actors = λ b h. each-set (λ b. Holds (actorRule k (leave s a) b)) a b
-          (let c = g .actors a l in rw (is, level) ((omega arith, (omega arith, c .0 .1 .1)), ((c .1 .0 .0, λ e. refl), c .1 .1)))
-          (λ q. rw (other (s STATE) a 0 b q, other (s PRIORITY) a 0 b q) (g .actors b h));
-      idle = λ b h. each-set (λ b. Holds (idleRule (leave s a) b)) a b
-          (rw (is, level) (λ e. (refl, bare .hand), (λ e. g .idle a l .1 .0 (λ r. omega (arith, u)), λ e. g .idle a l .1 .1 (λ r. omega (arith, u)))))
-          (λ q. rw (other (s STATE) a 0 b q, other (s PRIORITY) a 0 b q) (g .idle b h));
-      waits = g .waits;
-      runs = λ b h. rw z (each-set (λ b. b < k .actors → boolByte (eqb (getD (set (s STATE) a 0) b 0) RUNS) ≡ boolByte (eqb 0 (suc b))) a b
-          (λ h. rw (is, ne-eqb 0 (suc a) (λ e. omega arith)))
-          (λ q h. rw (other (s STATE) a 0 b q, ne-eqb 0 (suc b) (λ e. omega arith)) (rw (ne-eqb (runner s) (suc b) (λ e. eqb-false b a q (omega (arith, run)))) at (g .runs b h))) h);
-      queue = g .queue;
-      once = λ b h. each-set (λ b. b < k .actors → Holds (onceRule (leave s a) b)) a b
-          (λ h. rw is (rw u at (g .once a h)))
-          (λ q h. rw (other (s STATE) a 0 b q) (g .once b h)) h;
-      mails = λ e h. (g .mails e h .0, λ p. let c = g .mails e h .1 p in ((c .0 .0, stays (s STATE) a (at s MAIL-OWNER e) (c .0 .0) (bare .mail e) (c .0 .1)), c .1));
-      arrivals = g .arrivals;
-      arrived = g .arrived;
-      filters = λ e h p. split (eqb (at s MAIL-OWNER e - 1) a)
-          (λ q. absurd (let y : getD (set (s STATE) a 0) a 0 ≡ WAITS = rw (eqb-true (at s MAIL-OWNER e - 1) a q) at (p .1) in omega (arith, is)))
-          (λ q. g .filters e h (p .0, rw (other (s STATE) a 0 (at s MAIL-OWNER e - 1) q) at (p .1)));
-      datas = g .datas;
-      held = g .held;
-      links = λ e h. (g .links e h .0, λ p. ends-stay (s STATE) a (at s LINK-ONE e) (at s LINK-TWO e) (bare .one e) (bare .two e) (g .links e h .1 p));
-      pairs = g .pairs;
-      monitors = λ i h. (g .monitors i h .0, (g .monitors i h .1 .0, λ p. ends-stay (s STATE) a (at s WATCHER i) (at s WATCHED i) (bare .watcher i) (bare .watched i) (g .monitors i h .1 .1 p)));
-      timers = λ i h. (g .timers i h .0, (g .timers i h .1 .0, λ p. let c = g .timers i h .1 .1 p in (stays (s STATE) a (at s TIMER-OWNER i) (omega (arith, p)) (bare .timer i) (c .0), c .1)));
-    }
+    patch k g (wrote-leave (wrote-none s) a) (
+    Part.head by (rw z ((g .head .0 .0, omega arith), g .head .1)) also
+    Part.actors by (λ b h. each-set (λ b. Holds (actorRule k (leave s a) b)) a b
+    (let c = g .actors a l in rw (is, level) ((omega arith, (omega arith, c .0 .1 .1)), ((c .1 .0 .0, λ e. refl), c .1 .1)))
+    (λ q. rw (other (s STATE) a 0 b q, other (s PRIORITY) a 0 b q) (g .actors b h))) also
+    Part.idle by (λ b h. each-set (λ b. Holds (idleRule (leave s a) b)) a b
+    (rw (is, level) (λ e. (refl, bare .hand), (λ e. g .idle a l .1 .0 (λ r. omega (arith, u)), λ e. g .idle a l .1 .1 (λ r. omega (arith, u)))))
+    (λ q. rw (other (s STATE) a 0 b q, other (s PRIORITY) a 0 b q) (g .idle b h))) also
+    Part.runs by (λ b h. rw z (each-set (λ b. b < k .actors → boolByte (eqb (getD (set (s STATE) a 0) b 0) RUNS) ≡ boolByte (eqb 0 (suc b))) a b
+    (λ h. rw (is, ne-eqb 0 (suc a) (λ e. omega arith)))
+    (λ q h. rw (other (s STATE) a 0 b q, ne-eqb 0 (suc b) (λ e. omega arith)) (rw (ne-eqb (runner s) (suc b) (λ e. eqb-false b a q (omega (arith, run)))) at (g .runs b h))) h)) also
+    Part.once by (λ b h. each-set (λ b. b < k .actors → Holds (onceRule (leave s a) b)) a b
+    (λ h. rw is (rw u at (g .once a h)))
+    (λ q h. rw (other (s STATE) a 0 b q) (g .once b h)) h) also
+    Part.mails by (λ e h. (g .mails e h .0, λ p. let c = g .mails e h .1 p in ((c .0 .0, stays (s STATE) a (at s MAIL-OWNER e) (c .0 .0) (bare .mail e) (c .0 .1)), c .1))) also
+    Part.filters by (λ e h p. split (eqb (at s MAIL-OWNER e - 1) a)
+    (λ q. absurd (let y : getD (set (s STATE) a 0) a 0 ≡ WAITS = rw (eqb-true (at s MAIL-OWNER e - 1) a q) at (p .1) in omega (arith, is)))
+    (λ q. g .filters e h (p .0, rw (other (s STATE) a 0 (at s MAIL-OWNER e - 1) q) at (p .1)))) also
+    Part.links by (λ e h. (g .links e h .0, λ p. ends-stay (s STATE) a (at s LINK-ONE e) (at s LINK-TWO e) (bare .one e) (bare .two e) (g .links e h .1 p))) also
+    Part.monitors by (λ i h. (g .monitors i h .0, (g .monitors i h .1 .0, λ p. ends-stay (s STATE) a (at s WATCHER i) (at s WATCHED i) (bare .watcher i) (bare .watched i) (g .monitors i h .1 .1 p)))) also
+    Part.timers by (λ i h. (g .timers i h .0, (g .timers i h .1 .0, λ p. let c = g .timers i h .1 .1 p in (stays (s STATE) a (at s TIMER-OWNER i) (omega (arith, p)) (bare .timer i) (c .0), c .1)))) also
+    done) refl
 
 -- ---- hand and mailbox
 -- the state without the hand and the mailbox of slot a
@@ -125,10 +117,10 @@ module _ (k : Caps) (s : State) (g : Good k s) (a : ℕ) (run : runner s ≡ suc
       let e : at (letGo s a) ARRIVED 0 ≡ m = ap (λ (c : List ℕ). getD c 0 0) (letGo-arrived s a) in
       record {
         good = dropAll-keeps m k (letGo s a) a h;
-        runs = rw (dropAll-else m (letGo s a) a RUNNING (refl, refl, refl, refl, refl, refl, refl, refl, refl), letGo-else s a RUNNING (refl, refl, refl, refl, refl, refl, refl, refl, refl) refl) run;
-        id = rw (dropAll-else m (letGo s a) a AGE (refl, refl, refl, refl, refl, refl, refl, refl, refl), letGo-else s a AGE (refl, refl, refl, refl, refl, refl, refl, refl, refl) refl) refl;
+        runs = rw (beside-dropAll m (letGo s a) a .cols RUNNING refl, wrote-letGo s a .cols RUNNING refl) run;
+        id = rw (beside-dropAll m (letGo s a) a .cols AGE refl, wrote-letGo s a .cols AGE refl) refl;
         mail = rw e at (dropAll-empties k (letGo s a) a h);
-        hand = rw (dropAll-else m (letGo s a) a HAND (refl, refl, refl, refl, refl, refl, refl, refl, refl)) (letGo-empty k s a g slot);
+        hand = rw (beside-dropAll m (letGo s a) a .cols HAND refl) (letGo-empty k s a g slot);
       }
 
 -- ---- nothing is left
@@ -146,14 +138,14 @@ unlinked k s u a me w e o =
     o
   where
     in-range : (at u LINK-ONE e ≡ 0 → ⊥) → e < k .links
-    in-range n = omega (arith, used-inside (u LINK-ONE) e n, w .going .good .sized .words 33 (lit< tt))
+    in-range n = omega (arith, used-inside (u LINK-ONE) e n, w .going .good .sized .words LINK-ONE (lit< tt))
 
     two : at u LINK-ONE e ≡ 0 → at u LINK-TWO e ≡ 0
-    two z = elim (decLt e (k .links)) [ yes l ↦ w .going .good .links e l .0 z | no l ↦ List·getD-eq-default (u LINK-TWO) 0 {n = e} (omega (arith, w .going .good .sized .words 34 (lit< tt))) ]
+    two z = elim (decLt e (k .links)) [ yes l ↦ w .going .good .links e l .0 z | no l ↦ List·getD-eq-default (u LINK-TWO) 0 {n = e} (omega (arith, w .going .good .sized .words LINK-TWO (lit< tt))) ]
 
     never : (b : ℕ) → e < k .links → alive (u STATE) b ≡ true → ((at u LINK-ONE e ≡ suc a) × (at u LINK-TWO e ≡ suc b)) ⊎ ((at u LINK-ONE e ≡ suc b) × (at u LINK-TWO e ≡ suc a)) → ⊥
     never b l there p =
-        let m : b < k .actors = omega (arith, alive-below (u STATE) b there, w .going .good .sized .words 18 (lit< tt)) in
+        let m : b < k .actors = omega (arith, alive-below (u STATE) b there, w .going .good .sized .words STATE (lit< tt)) in
         let f : joins (u LINK-ONE) (u LINK-TWO) (suc a) (suc b) e ≡ false = w .joined b e l ∙ rw (lt-ltb b (k .actors) m) in
         true-false (joins (u LINK-ONE) (u LINK-TWO) (suc a) (suc b) e)
         (⊎-elim (λ q. rw (eq-eqb (at u LINK-ONE e) (suc a) (q .0), eq-eqb (at u LINK-TWO e) (suc b) (q .1)))
@@ -166,7 +158,7 @@ unwatched k s u a me z w i q =
     let h = w .watched i in
     split (eqb (at s WATCHED i) (suc a))
     (λ r. let n : at s WATCHED i ≡ 0 → ⊥ = λ y. omega (arith, eqb-true (at s WATCHED i) (suc a) r) in
-    let l : i < k .monitors = omega (arith, used-inside (s WATCHED) i n, z .words 36 (lit< tt)) in
+    let l : i < k .monitors = omega (arith, used-inside (s WATCHED) i n, z .words WATCHED (lit< tt)) in
     let y : at u WATCHED i ≡ 0 = rw (lt-ltb i (k .monitors) l, r) at h in
     omega arith)
     (λ r. split (ltb i (k .monitors))
@@ -204,14 +196,14 @@ module _ (k : Caps) (s : State) (g : Good k s) (a reason : ℕ) (run : runner s 
       let gt = dropTimers-keeps k a m gm in
       let loose = unlinked k (emptied s a) v a (actorId s a) c in
       record {
-        mail = rw (y .beside 28 refl, x .beside 28 refl) (w .going .mail);
-        hand = rw (y .beside 22 refl, x .beside 22 refl) (w .going .hand);
-        one = rw (y .beside 33 refl, x .beside 33 refl, w .beside 33 refl) (λ e q. loose e (inl q));
-        two = rw (y .beside 34 refl, x .beside 34 refl, w .beside 34 refl) (λ e q. loose e (inr q));
-        watcher = rw (y .beside 35 refl) (λ i q. dropMonitors-none k a u (gu .sized) i (omega (arith, used-inside (m WATCHER) i (λ z. omega arith), gm .sized .words 35 (lit< tt))) q);
-        watched = rw (y .beside 36 refl) (λ i q. unwatched k v u a (actorId s a) (c .going .good .sized) w i
+        mail = rw (y .wrote .cols MAIL-OWNER refl, x .wrote .cols MAIL-OWNER refl) (w .going .mail);
+        hand = rw (y .wrote .cols HAND refl, x .wrote .cols HAND refl) (w .going .hand);
+        one = rw (y .wrote .cols LINK-ONE refl, x .wrote .cols LINK-ONE refl, w .wrote .cols LINK-ONE refl) (λ e q. loose e (inl q));
+        two = rw (y .wrote .cols LINK-TWO refl, x .wrote .cols LINK-TWO refl, w .wrote .cols LINK-TWO refl) (λ e q. loose e (inr q));
+        watcher = rw (y .wrote .cols WATCHER refl) (λ i q. dropMonitors-none k a u (gu .sized) i (omega (arith, used-inside (m WATCHER) i (λ z. omega arith), gm .sized .words WATCHER (lit< tt))) q);
+        watched = rw (y .wrote .cols WATCHED refl) (λ i q. unwatched k v u a (actorId s a) (c .going .good .sized) w i
             (split (below (u WATCHER) (suc a) (k .monitors) i) (λ b. absurd (let z : at m WATCHED i ≡ 0 = rw b at (x .watched i) in omega arith)) (λ b. sym (rw b at (x .watched i)) ∙ q)));
-        timer = λ i q. dropTimers-none k a m (gm .sized) i (omega (arith, used-inside (dropped k a u TIMER-OWNER) i (λ z. omega arith), gt .sized .words 38 (lit< tt))) q;
+        timer = λ i q. dropTimers-none k a m (gm .sized) i (omega (arith, used-inside (dropped k a u TIMER-OWNER) i (λ z. omega arith), gt .sized .words TIMER-OWNER (lit< tt))) q;
       }
 
   -- it still runs, in a sound state
@@ -223,17 +215,14 @@ module _ (k : Caps) (s : State) (g : Good k s) (a reason : ℕ) (run : runner s 
   dropped-runs =
       let u = farewell k a (actorId s a) reason s .state in
       let gu = monitors-cut .going .good in
-      rw (dropTimers-ends k a (dropMonitors a (k .monitors) u) (dropMonitors-keeps k a u gu .sized) .beside 7 refl, dropMonitors-ends k a u (gu .sized) .beside 7 refl) (monitors-cut .going .runs)
+      rw (dropTimers-ends k a (dropMonitors a (k .monitors) u) (dropMonitors-keeps k a u gu .sized) .wrote .cols RUNNING refl, dropMonitors-ends k a u (gu .sized) .wrote .cols RUNNING refl) (monitors-cut .going .runs)
 
 -- THE THEOREM of exit
-pub exit-keeps : (reason : ℕ) (k : Caps) (s : State) → Good k s → Good k (exitRule reason k s .state)
-unfolding exitRule
-exit-keeps reason k s g =
+pub exit-keeps : (reason : ℕ) → Keeps (exit reason)
+exit-keeps reason k s g p =
     let a = runner s - 1 in
-    split (eqb (runner s) 0) (λ q. rw q g)
-    (λ q. split (ltb 65535 reason) (λ r. rw (q, r) g)
-    (λ r. let run : runner s ≡ suc a = omega (arith, eqb-false (runner s) 0 q) in
-    rw (q, r) (leave-keeps k (dropped k a (farewell k a (actorId s a) reason s .state)) a (dropped-good k s g a reason run) (dropped-runs k s g a reason run) (dropped-bare k s g a reason run))))
+    let run : runner s ≡ suc a = omega (arith, eqb-false (runner s) 0 (p .0)) in
+    leave-keeps k (dropped k a (farewell k a (actorId s a) reason s .state)) a (dropped-good k s g a reason run) (dropped-runs k s g a reason run) (dropped-bare k s g a reason run)
 
 -- ---- after an exit
 -- the slot is free, and as bare as before
@@ -247,7 +236,7 @@ leave-bare k s a b = (
 -- "Nothing of an ended actor is left": it owns nothing, nothing is aimed at it, its slot is free and its id is nobody's
 pub exit-leaves-nothing : (reason : ℕ) (k : Caps) (s : State) → Good k s → eqb (runner s) 0 ≡ false → reason ≤ 65535 →
     Bare k (exitRule reason k s .state) (runner s - 1) × (at (exitRule reason k s .state) STATE (runner s - 1) ≡ FREE) × (isActor (exitRule reason k s .state) (runnerId s) ≡ false)
-unfolding exitRule
+unfolding ruled
 exit-leaves-nothing reason k s g q h =
     let a = runner s - 1 in
     let run : runner s ≡ suc a = omega (arith, eqb-false (runner s) 0 q) in

@@ -9,11 +9,11 @@ use lib.ListN.{length, getD, set, take, length-append, List·getD-eq-default}
 use lib.Seq.{take-append-le}
 use lib.Dec.{eqb, ltb, lit<}
 use borrow.Author.Tests.{eqb-true, eqb-false, eq-eqb, ne-eqb, ltb-false, le-ltb, not-true}
-use Rattle.ledger.specs.Call.Call.{exit}
+use Rattle.ledger.specs.Call.Op.{exit}
 use Rattle.ledger.specs.Ledger.{Actor, Ledger, Link, Message, Monitor, mail, ties, withMail, withTies}
 use Rattle.ledger.specs.Lists.{those, bySlot}
 use Rattle.ledger.specs.Reckon
-use Rattle.ledger.specs.Reckon.{cleared, departed, done, endLinks, endMonitors, endTimers, entered, gone, linked, message, notice, notices, sent, wornBy}
+use Rattle.ledger.specs.Reckon.{cleared, departed, endLinks, endMonitors, endTimers, entered, gone, linked, message, notice, notices, sent, wornBy}
 use Rattle.pools.specs.Pool.{occurs, Exact}
 use Rattle.pools.specs.Lists.{keep}
 use Rattle.pools.specs.Slot.{idOf, unused}
@@ -31,16 +31,19 @@ use Rattle.tables.specs.State.{State, at, head, poke, with-col}
 use Rattle.rules.specs.Terms.{RUNS, actorId, alive, joins, monitorId, runner, runnerId}
 use Rattle.rules.specs.Agrees.{Agrees, actorAt, isWorn, linkAt, monitorAt}
 use Rattle.rules.specs.Actions.{hasRoom, letGo, post}
-use Rattle.rules.specs.Calls.{Told, cutLink, cutLinks, cutMonitor, cutMonitors, dropMonitors, dropTimers, exitRule, farewell, leave, linkOf, tell, tie, told, unwatch}
-use Rattle.rules.specs.Run.{sayEnded}
+use Rattle.rules.specs.Calls.{cutLink, cutLinks, cutMonitor, cutMonitors, dropMonitors, dropTimers, exitRule, farewell, leave, linkOf, ruled, tell, tie, Told, told, unwatch}
+use Rattle.rules.proofs.Claims.{Agreed}
 use Rattle.rules.proofs.Good.{Good}
 use Rattle.rules.proofs.ColumnLaws.{alive-of, other, set-zero}
 use Rattle.rules.proofs.LedgerLaws.{alive-slot, id-eqb, map-same-on, running-is, slot-map, those-map}
 use Rattle.rules.proofs.TieLaws
 use Rattle.rules.proofs.TieLaws.{below, ends, keep-in, set-cond, used-inside, worn-ends}
-use Rattle.rules.proofs.Ties.{dropMonitors-ends, dropMonitors-keeps, dropTimers-ends, dropTimers-keeps, tie-beside, unwatch-ends}
+use Rattle.rules.proofs.AgreeLaws.{agrees-people}
+use Rattle.rules.proofs.Frame.{wrote-none}
+use Rattle.rules.proofs.Frames.{wrote-leave, wrote-letGo, wrote-tie}
+use Rattle.rules.proofs.Ties.{dropMonitors-ends, dropMonitors-keeps, dropTimers-ends, dropTimers-keeps, unwatch-ends}
 use Rattle.rules.proofs.TiesAgree.{bond-joins, bond-used, dropMonitors-agrees, dropTimers-agrees, eye-used, linked-once, linked-same, untie-agrees, unwatch-agrees, up-id}
-use Rattle.rules.proofs.Messages.{Fine, letGo-else, letGo-keeps}
+use Rattle.rules.proofs.Messages.{Fine, letGo-keeps}
 use Rattle.rules.proofs.MessagesAgree.{dropAll-agrees, handless, letGo-agrees-at, post-agrees}
 use Rattle.rules.proofs.NoticeLaws.{keep-once, map-rows, rows, rows-no, rows-past, rows-same, rows-yes, slot-rows, those-all, those-then, upto, upto-less, upto-more, upto-no, upto-yes}
 use Rattle.rules.proofs.ExitLaws.{Cut, Going, Unseen, cut-none, cutLink-no, cutLink-yes, cutLinks-cuts, cutMonitor-no, cutMonitor-yes, cutMonitors-cuts, exit-fine, going-alive, link-found, tell-lost, tell-sent, unseen-next, unseen-none, unseen-one, untied, watcher-there}
@@ -171,17 +174,17 @@ module _ (k : Caps) (l : Ledger) (s : State) (a me reason : ℕ) (q : Monitor �
       let f : Link → ℕ → Bool = λ x c. linkedTo k s a c && Reckon.joins me (actorId s c) x in
       let same : ltb (linkOf k u (suc a) (suc b)) (k .links) ≡ linkedTo k s a b =
       ap (λ (x : ℕ). ltb x (k .links)) (lowest-same (joins (s LINK-ONE) (s LINK-TWO) (suc a) (suc b)) (joins (u LINK-ONE) (u LINK-TWO) (suc a) (suc b)) (k .links) (λ e l. w .joined b e l ∙ rw (le-ltb b b (omega arith)))) in
-      let id : actorId u b ≡ actorId s b = ap (λ (c : List ℕ). idOf 64 (getD c b 0) b) (w .beside 21 refl) in
+      let id : actorId u b ≡ actorId s b = ap (λ (c : List ℕ). idOf 64 (getD c b 0) b) (w .wrote .cols AGE refl) in
       split (ltb (linkOf k u (suc a) (suc b)) (k .links))
       (λ y. let o = link-found k u a b g y in
       let lk : linkedTo k s a b ≡ true = sym same ∙ y in
       let c = untied k s u a me b e w (o .0) (o .1) in
-      let x : actorId (tie u e 0 0) b ≡ actorId s b = ap (λ (c : List ℕ). idOf 64 (getD c b 0) b) (tie-beside k u g e 0 0 21 refl) ∙ id in
+      let x : actorId (tie u e 0 0) b ≡ actorId s b = ap (λ (c : List ℕ). idOf 64 (getD c b 0) b) (wrote-tie (wrote-none u) e 0 0 .cols AGE refl) ∙ id in
       rw (cutLink-yes k a me reason b t y)
       (along-same (ap (λ (i : ℕ). ns ++ (notice me reason 0 i ∷ [])) x ∙ sym (rows-yes (linkedTo k s a) (λ c. notice me reason 0 (actorId s c)) b lk))
       (ap (λ (i : ℕ). λ (x : Link). linkGone k s a me b x || Reckon.joins me i x) id ∙ upto-more f b (linkedTo k s a b) (Reckon.joins me (actorId s b)) (λ x. refl) lk) refl
       (tell-along k l ns (λ x. linkGone k s a me b x || Reckon.joins me (actorId u b) x) q (told (t .sent) (t .lost) (tie u e 0 0)) a b me reason 0 (c .going)
-      (rw (tie-beside k u g e 0 0 18 refl) (o .2)) (untie-along k l ns (linkGone k s a me b) q t a b me (w .going) (o .2) (o .0) r))))
+      (rw (wrote-tie (wrote-none u) e 0 0 .cols STATE refl) (o .2)) (untie-along k l ns (linkGone k s a me b) q t a b me (w .going) (o .2) (o .0) r))))
       (λ y. let lk : linkedTo k s a b ≡ false = sym same ∙ y in
       rw (cutLink-no k a me reason b t y)
       (along-same (sym (rows-no (linkedTo k s a) (λ c. notice me reason 0 (actorId s c)) b lk)) (upto-less f b (linkedTo k s a b) (Reckon.joins me (actorId s b)) (λ x. refl) lk) refl r))
@@ -243,14 +246,14 @@ module _ (k : Caps) (l : Ledger) (s : State) (a me reason : ℕ) (ns : List Mess
       let sn : seenBy s a i ≡ true = sym same ∙ y in
       let x = unwatch-ends k u i (g .sized) m in
       let c = unseen-one k s u a me i w m sn in
-      let who : actorId (unwatch u i) (at u WATCHER i - 1) ≡ actorId s (at s WATCHER i - 1) = ap₂ (λ (c : List ℕ) (v : ℕ). idOf 64 (getD c (v - 1) 0) (v - 1)) (x .beside 21 refl ∙ w .beside 21 refl) (n .1) in
+      let who : actorId (unwatch u i) (at u WATCHER i - 1) ≡ actorId s (at s WATCHER i - 1) = ap₂ (λ (c : List ℕ) (v : ℕ). idOf 64 (getD c (v - 1) 0) (v - 1)) (x .wrote .cols AGE refl ∙ w .wrote .cols AGE refl) (n .1) in
       rw (cutMonitor-yes k a me reason i t y)
       (along-same
       (append-assoc ns es _ ∙ ap (λ (l : List Message). ns ++ l) (ap₂ (λ (i : ℕ) (j : ℕ). es ++ (notice me reason i j ∷ [])) id who ∙ sym (rows-yes (seenBy s a) (λ i. notice me reason (monitorId s i) (actorId s (at s WATCHER i - 1))) i sn)))
       refl
       (ap (λ (j : ℕ). λ (x : Monitor). eyeGone s a i x || eqb (x .id) j) id ∙ upto-more f i (seenBy s a i) (λ x. eqb (x .id) (monitorId s i)) (λ x. refl) sn)
       (tell-along k l (ns ++ es) p (λ m. eyeGone s a i m || eqb (m .id) (monitorId u i)) (told (t .sent) (t .lost) (unwatch u i)) a (at u WATCHER i - 1) me reason (monitorId u i) (c .going)
-      (rw (x .beside 18 refl) (o .1)) (unwatch-along k l (ns ++ es) p (eyeGone s a i) t i g m r))))
+      (rw (x .wrote .cols STATE refl) (o .1)) (unwatch-along k l (ns ++ es) p (eyeGone s a i) t i g m r))))
       (λ y. let sn : seenBy s a i ≡ false = sym same ∙ y in
       rw (cutMonitor-no k a me reason i t y)
       (along-same (ap (λ (l : List Message). ns ++ l) (sym (rows-no (seenBy s a) (λ i. notice me reason (monitorId s i) (actorId s (at s WATCHER i - 1))) i sn))) refl
@@ -278,13 +281,13 @@ module _ (k : Caps) (s : State) (l : Ledger) (g : Good k s) (r : Agrees k l s) (
   link-notices =
       let me = actorId s a in
       let f : ℕ → Message = λ c. notice (actorId s a) reason 0 (actorId s c) in
-      let used : (e : ℕ) → 0 < occurs e (r .slots) → alive (s STATE) e ≡ true = λ e o. exact-used (alive (s STATE)) (r .slots) e (r .allSlots) o in
+      let used : (e : ℕ) → 0 < occurs e (r .people .slots) → alive (s STATE) e ≡ true = λ e o. exact-used (alive (s STATE)) (r .people .slots) e (r .people .allSlots) o in
       ap (λ (x : List Actor). map (λ x. notice (actorId s a) reason 0 (x .id)) (bySlot (λ x. x .id % 64) 64 x))
-      (ap (those (λ x. linked l (actorId s a) (x .id))) (r .live) ∙ those-map (λ x. linked l (actorId s a) (x .id)) (actorAt s) (r .slots)
-      ∙ ap (map (actorAt s)) (keep-same-on (λ e. linked l (actorId s a) (actorId s e)) (linkedTo k s a) (r .slots) (λ e o. linked-same k l s g r a e there (used e o))))
-      ∙ ap (map (λ x. notice (actorId s a) reason 0 (x .id))) (slot-map (λ x. x .id % 64) (actorAt s) 64 (keep (linkedTo k s a) (r .slots)))
-      ∙ map-map (λ x. notice (actorId s a) reason 0 (x .id)) (actorAt s) (bySlot (λ e. actorId s e % 64) 64 (keep (linkedTo k s a) (r .slots)))
-      ∙ ap (map f) (slot-rows (λ e. actorId s e % 64) (alive (s STATE)) (linkedTo k s a) (r .slots) (r .allSlots) (λ e o. slot-of-id 64 (at s AGE e) e (omega (arith, alive-slot k s g e (used e o), g .range .fewActors))) 64)
+      (ap (those (λ x. linked l (actorId s a) (x .id))) (r .people .live) ∙ those-map (λ x. linked l (actorId s a) (x .id)) (actorAt s) (r .people .slots)
+      ∙ ap (map (actorAt s)) (keep-same-on (λ e. linked l (actorId s a) (actorId s e)) (linkedTo k s a) (r .people .slots) (λ e o. linked-same k l s g r a e there (used e o))))
+      ∙ ap (map (λ x. notice (actorId s a) reason 0 (x .id))) (slot-map (λ x. x .id % 64) (actorAt s) 64 (keep (linkedTo k s a) (r .people .slots)))
+      ∙ map-map (λ x. notice (actorId s a) reason 0 (x .id)) (actorAt s) (bySlot (λ e. actorId s e % 64) 64 (keep (linkedTo k s a) (r .people .slots)))
+      ∙ ap (map f) (slot-rows (λ e. actorId s e % 64) (alive (s STATE)) (linkedTo k s a) (r .people .slots) (r .people .allSlots) (λ e o. slot-of-id 64 (at s AGE e) e (omega (arith, alive-slot k s g e (used e o), g .range .fewActors))) 64)
       ∙ map-rows f (λ e. alive (s STATE) e && linkedTo k s a e) (λ e. e) 64
       ∙ rows-same (λ e. alive (s STATE) e && linkedTo k s a e) (linkedTo k s a) f f 64 (λ e h. split (linkedTo k s a e) (λ q. rw (q, linked-there e q)) (λ q. rw q (and-false (alive (s STATE) e)))) (λ e h. refl)
       ∙ rows-past (linkedTo k s a) f (k .actors) 64 (g .range .fewActors) linked-past
@@ -293,11 +296,11 @@ module _ (k : Caps) (s : State) (l : Ledger) (g : Good k s) (r : Agrees k l s) (
   seen-there : (i : ℕ) → seenBy s a i ≡ true → (i < k .monitors) × (at s WATCHER i ≡ 0 → ⊥)
   seen-there i q =
       let e = eqb-true (at s WATCHED i) (suc a) q in
-      let m : i < k .monitors = omega (arith, used-inside (s WATCHED) i (λ z. omega arith), g .sized .words 36 (lit< tt)) in
+      let m : i < k .monitors = omega (arith, used-inside (s WATCHED) i (λ z. omega arith), g .sized .words WATCHED (lit< tt)) in
       (m, watcher-there k s a i g m e .0)
 
   -- the target of a monitor is the actor on both sides, or on neither
-  target-same : (e : ℕ) → 0 < occurs e (r .eyes) → eqb (actorId s (at s WATCHED e - 1)) (actorId s a) ≡ seenBy s a e
+  target-same : (e : ℕ) → 0 < occurs e (r .monitors .eyes) → eqb (actorId s (at s WATCHED e - 1)) (actorId s a) ≡ seenBy s a e
   target-same e o =
       let c = eye-used k l s s g r e o in
       let h = g .monitors e (c .1) .1 .1 (c .0) in
@@ -309,11 +312,11 @@ module _ (k : Caps) (s : State) (l : Ledger) (g : Good k s) (r : Agrees k l s) (
       let f : ℕ → Message = λ i. notice (actorId s a) reason (monitorId s i) (actorId s (at s WATCHER i - 1)) in
       let u : ℕ → Bool = λ i. not (unused (s WATCHER) i) in
       ap (λ (x : List Monitor). map (λ m. notice (actorId s a) reason (m .id) (m .watcher)) (bySlot (λ m. m .id % 128) 128 x))
-      (ap (those (λ m. eqb (m .target) (actorId s a))) (r .monitors) ∙ those-map (λ m. eqb (m .target) (actorId s a)) (monitorAt s) (r .eyes)
-      ∙ ap (map (monitorAt s)) (keep-same-on (λ e. eqb (actorId s (at s WATCHED e - 1)) (actorId s a)) (seenBy s a) (r .eyes) target-same))
-      ∙ ap (map (λ m. notice (actorId s a) reason (m .id) (m .watcher))) (slot-map (λ m. m .id % 128) (monitorAt s) 128 (keep (seenBy s a) (r .eyes)))
-      ∙ map-map (λ m. notice (actorId s a) reason (m .id) (m .watcher)) (monitorAt s) (bySlot (λ e. monitorId s e % 128) 128 (keep (seenBy s a) (r .eyes)))
-      ∙ ap (map f) (slot-rows (λ e. monitorId s e % 128) u (seenBy s a) (r .eyes) (r .allEyes) (λ e o. slot-of-id 128 (at s MONITOR-AGE e) e (omega (arith, eye-used k l s s g r e o .1, g .range .fewMonitors))) 128)
+      (ap (those (λ m. eqb (m .target) (actorId s a))) (r .monitors .monitors) ∙ those-map (λ m. eqb (m .target) (actorId s a)) (monitorAt s) (r .monitors .eyes)
+      ∙ ap (map (monitorAt s)) (keep-same-on (λ e. eqb (actorId s (at s WATCHED e - 1)) (actorId s a)) (seenBy s a) (r .monitors .eyes) target-same))
+      ∙ ap (map (λ m. notice (actorId s a) reason (m .id) (m .watcher))) (slot-map (λ m. m .id % 128) (monitorAt s) 128 (keep (seenBy s a) (r .monitors .eyes)))
+      ∙ map-map (λ m. notice (actorId s a) reason (m .id) (m .watcher)) (monitorAt s) (bySlot (λ e. monitorId s e % 128) 128 (keep (seenBy s a) (r .monitors .eyes)))
+      ∙ ap (map f) (slot-rows (λ e. monitorId s e % 128) u (seenBy s a) (r .monitors .eyes) (r .monitors .allEyes) (λ e o. slot-of-id 128 (at s MONITOR-AGE e) e (omega (arith, eye-used k l s s g r e o .1, g .range .fewMonitors))) 128)
       ∙ map-rows f (λ e. u e && seenBy s a e) (λ e. e) 128
       ∙ rows-same (λ e. u e && seenBy s a e) (seenBy s a) f f 128 (λ e h. split (seenBy s a e) (λ q. rw (q, ne-eqb (at s WATCHER e) 0 (seen-there e q .1))) (λ q. rw q (and-false (u e)))) (λ e h. refl)
       ∙ rows-past (seenBy s a) f (k .monitors) 128 (g .range .fewMonitors) (λ e h. split (seenBy s a e) (λ q. absurd (omega (arith, seen-there e q .0))) (λ q. q))
@@ -335,7 +338,7 @@ module _ (k : Caps) (s : State) (l : Ledger) (g : Good k s) (r : Agrees k l s) (
       (rw found (bond-joins k l s g r a c e there live n m ∙ j))
 
   -- a link goes exactly where the actor is at one of its ends
-  link-goes : (e : ℕ) → 0 < occurs e (r .bonds) → linkGone k s a (actorId s a) (k .actors) (linkAt s e) ≡ eqb (actorId s (at s LINK-ONE e - 1)) (actorId s a) || eqb (actorId s (at s LINK-TWO e - 1)) (actorId s a)
+  link-goes : (e : ℕ) → 0 < occurs e (r .links .bonds) → linkGone k s a (actorId s a) (k .actors) (linkAt s e) ≡ eqb (actorId s (at s LINK-ONE e - 1)) (actorId s a) || eqb (actorId s (at s LINK-TWO e - 1)) (actorId s a)
   unfolding joins
   link-goes e o =
       let u = bond-used k l s g r e o in
@@ -355,13 +358,13 @@ module _ (k : Caps) (s : State) (l : Ledger) (g : Good k s) (r : Agrees k l s) (
   -- the links that are left
   pub links-stay : those (λ x. not (eqb (x .one) (actorId s a) || eqb (x .two) (actorId s a))) (l .ties .links) ≡ those (λ x. not (linkGone k s a (actorId s a) (k .actors) x)) (l .ties .links)
   links-stay =
-      rw (r .links)
-      (those-map (λ x. not (eqb (x .one) (actorId s a) || eqb (x .two) (actorId s a))) (linkAt s) (r .bonds)
-      ∙ ap (map (linkAt s)) (keep-same-on (λ e. not (eqb (actorId s (at s LINK-ONE e - 1)) (actorId s a) || eqb (actorId s (at s LINK-TWO e - 1)) (actorId s a))) (λ e. not (linkGone k s a (actorId s a) (k .actors) (linkAt s e))) (r .bonds) (λ e o. ap not (sym (link-goes e o))))
-      ∙ sym (those-map (λ x. not (linkGone k s a (actorId s a) (k .actors) x)) (linkAt s) (r .bonds)))
+      rw (r .links .links)
+      (those-map (λ x. not (eqb (x .one) (actorId s a) || eqb (x .two) (actorId s a))) (linkAt s) (r .links .bonds)
+      ∙ ap (map (linkAt s)) (keep-same-on (λ e. not (eqb (actorId s (at s LINK-ONE e - 1)) (actorId s a) || eqb (actorId s (at s LINK-TWO e - 1)) (actorId s a))) (λ e. not (linkGone k s a (actorId s a) (k .actors) (linkAt s e))) (r .links .bonds) (λ e o. ap not (sym (link-goes e o))))
+      ∙ sym (those-map (λ x. not (linkGone k s a (actorId s a) (k .actors) x)) (linkAt s) (r .links .bonds)))
 
   -- a monitor goes exactly where the actor is its target
-  eye-goes : (e : ℕ) → 0 < occurs e (r .eyes) → eyeGone s a (k .monitors) (monitorAt s e) ≡ seenBy s a e
+  eye-goes : (e : ℕ) → 0 < occurs e (r .monitors .eyes) → eyeGone s a (k .monitors) (monitorAt s e) ≡ seenBy s a e
   eye-goes e o =
       let u = eye-used k l s s g r e o in
       let same : (i : ℕ) → i < k .monitors → eqb (monitorId s e) (monitorId s i) ≡ eqb e i = λ i m. TieLaws.id-eqb 128 (s MONITOR-AGE) e i (omega (arith, u .1, g .range .fewMonitors)) (omega (arith, g .range .fewMonitors)) in
@@ -374,59 +377,41 @@ module _ (k : Caps) (s : State) (l : Ledger) (g : Good k s) (r : Agrees k l s) (
   pub eyes-stay : those (λ m. not (eqb (m .target) (actorId s a) || eqb (m .watcher) (actorId s a))) (l .ties .monitors)
       ≡ those (λ m. not (eqb (m .watcher) (actorId s a))) (those (λ m. not (eyeGone s a (k .monitors) m)) (l .ties .monitors))
   eyes-stay =
-      rw (r .monitors)
-      (those-map (λ m. not (eqb (m .target) (actorId s a) || eqb (m .watcher) (actorId s a))) (monitorAt s) (r .eyes)
-      ∙ ap (map (monitorAt s)) (keep-same-on (λ e. not (eqb (actorId s (at s WATCHED e - 1)) (actorId s a) || eqb (actorId s (at s WATCHER e - 1)) (actorId s a))) (λ e. not (eyeGone s a (k .monitors) (monitorAt s e) || eqb (actorId s (at s WATCHER e - 1)) (actorId s a))) (r .eyes)
+      rw (r .monitors .monitors)
+      (those-map (λ m. not (eqb (m .target) (actorId s a) || eqb (m .watcher) (actorId s a))) (monitorAt s) (r .monitors .eyes)
+      ∙ ap (map (monitorAt s)) (keep-same-on (λ e. not (eqb (actorId s (at s WATCHED e - 1)) (actorId s a) || eqb (actorId s (at s WATCHER e - 1)) (actorId s a))) (λ e. not (eyeGone s a (k .monitors) (monitorAt s e) || eqb (actorId s (at s WATCHER e - 1)) (actorId s a))) (r .monitors .eyes)
       (λ e o. ap (λ (b : Bool). not (b || eqb (actorId s (at s WATCHER e - 1)) (actorId s a))) (target-same k s l g r a 0 there e o ∙ sym (eye-goes e o))))
-      ∙ sym (those-map (λ m. not (eyeGone s a (k .monitors) m || eqb (m .watcher) (actorId s a))) (monitorAt s) (r .eyes))
-      ∙ sym (those-then (eyeGone s a (k .monitors)) (λ m. eqb (m .watcher) (actorId s a)) (map (monitorAt s) (r .eyes))))
+      ∙ sym (those-map (λ m. not (eyeGone s a (k .monitors) m || eqb (m .watcher) (actorId s a))) (monitorAt s) (r .monitors .eyes))
+      ∙ sym (those-then (eyeGone s a (k .monitors)) (λ m. eqb (m .watcher) (actorId s a)) (map (monitorAt s) (r .monitors .eyes))))
 
   -- the worn slots of monitors, where just these ended
   pub eyes-worn : (u : State) → u MONITOR-AGE ≡ s MONITOR-AGE → ((e : ℕ) → at u WATCHER e ≡ cond (seenBy s a e || eqb (at s WATCHER e) (suc a)) 0 (at s WATCHER e)) →
       Exact (l .ties .worn ++ wornBy 128 (map (λ m. m .id) (those (λ m. eqb (m .target) (actorId s a) || eqb (m .watcher) (actorId s a)) (l .ties .monitors)))) (isWorn (u WATCHER) (u MONITOR-AGE))
   eyes-worn u y h =
       let p : ℕ → Bool = λ e. seenBy s a e || eqb (at s WATCHER e) (suc a) in
-      let same : (e : ℕ) → 0 < occurs e (r .eyes) → eqb (actorId s (at s WATCHED e - 1)) (actorId s a) || eqb (actorId s (at s WATCHER e - 1)) (actorId s a) ≡ seenBy s a e || eqb (at s WATCHER e) (suc a) =
+      let same : (e : ℕ) → 0 < occurs e (r .monitors .eyes) → eqb (actorId s (at s WATCHED e - 1)) (actorId s a) || eqb (actorId s (at s WATCHER e - 1)) (actorId s a) ≡ seenBy s a e || eqb (at s WATCHER e) (suc a) =
       λ e o. (let c = eye-used k l s s g r e o in
       let n = g .monitors e (c .1) .1 .1 (c .0) in
       ap₂ (λ (x y : Bool). x || y) (target-same k s l g r a 0 there e o) (up-id k l s g r (at s WATCHER e) a (n .0 .0) (n .0 .1) there)) in
       rw (
-        r .monitors,
-        those-map (λ m. eqb (m .target) (actorId s a) || eqb (m .watcher) (actorId s a)) (monitorAt s) (r .eyes),
-        keep-same-on (λ e. eqb (actorId s (at s WATCHED e - 1)) (actorId s a) || eqb (actorId s (at s WATCHER e - 1)) (actorId s a)) (λ e. seenBy s a e || eqb (at s WATCHER e) (suc a)) (r .eyes) same,
-        map-map (λ x. x .id) (monitorAt s) (keep (λ e. seenBy s a e || eqb (at s WATCHER e) (suc a)) (r .eyes)),
+        r .monitors .monitors,
+        those-map (λ m. eqb (m .target) (actorId s a) || eqb (m .watcher) (actorId s a)) (monitorAt s) (r .monitors .eyes),
+        keep-same-on (λ e. eqb (actorId s (at s WATCHED e - 1)) (actorId s a) || eqb (actorId s (at s WATCHER e - 1)) (actorId s a)) (λ e. seenBy s a e || eqb (at s WATCHER e) (suc a)) (r .monitors .eyes) same,
+        map-map (λ x. x .id) (monitorAt s) (keep (λ e. seenBy s a e || eqb (at s WATCHER e) (suc a)) (r .monitors .eyes)),
         y,
       )
-      (worn-ends (s WATCHER) (u WATCHER) p h 128 (s MONITOR-AGE) (r .eyes) (l .ties .worn) (λ e o. omega (arith, eye-used k l s s g r e o .1, g .range .fewMonitors)) (r .allEyes) (r .wornEyes))
+      (worn-ends (s WATCHER) (u WATCHER) p h 128 (s MONITOR-AGE) (r .monitors .eyes) (l .ties .worn) (λ e o. omega (arith, eye-used k l s s g r e o .1, g .range .fewMonitors)) (r .monitors .allEyes) (r .monitors .wornEyes))
 
 -- the same with its links, monitors and worn slots of monitors otherwise listed
 ties-again : (k : Caps) (l : Ledger) (s : State) (links : List Link) (monitors : List Monitor) (worn : List ℕ) → links ≡ l .ties .links → monitors ≡ l .ties .monitors → Exact worn (isWorn (s WATCHER) (s MONITOR-AGE)) →
     Agrees k l s → Agrees k (withTies l (ties links monitors worn)) s
 ties-again k l s links monitors worn e f x r = record {
   sizes = r .sizes;
-  clock = r .clock;
-  running = r .running;
-  slots = r .slots;
-  allSlots = r .allSlots;
-  live = r .live;
-  wornSlots = r .wornSlots;
-  allBoxes = r .allBoxes;
-  boxes = r .boxes;
-  palms = r .palms;
-  allPalms = r .allPalms;
-  hands = r .hands;
-  allDatas = r .allDatas;
-  clocks = r .clocks;
-  allClocks = r .allClocks;
-  timers = r .timers;
-  wornClocks = r .wornClocks;
-  bonds = r .bonds;
-  allBonds = r .allBonds;
-  links = e ∙ r .links;
-  eyes = r .eyes;
-  allEyes = r .allEyes;
-  monitors = f ∙ r .monitors;
-  wornEyes = x;
+  people = r .people;
+  mail = r .mail;
+  time = r .time;
+  links = record { bonds = r .links .bonds; allBonds = r .links .allBonds; links = e ∙ r .links .links };
+  monitors = record { eyes = r .monitors .eyes; allEyes = r .monitors .allEyes; monitors = f ∙ r .monitors .monitors; wornEyes = x };
 }
 
 -- ---- the slot is given back
@@ -434,38 +419,19 @@ pub leave-agrees : (k : Caps) (s : State) (l : Ledger) (a : ℕ) → Good k s �
 unfolding gone leave poke with-col alive
 leave-agrees k s l a g r there =
     let m = alive-slot k s g a there in
-    let used : (e : ℕ) → 0 < occurs e (r .slots) → alive (s STATE) e ≡ true = λ e o. exact-used (alive (s STATE)) (r .slots) e (r .allSlots) o in
-    let once : occurs a (r .slots) ≡ 1 = rw there at (r .allSlots a) in
-    let alone : keep (λ e. eqb e a) (r .slots) ≡ a ∷ [] = keep-once (λ e. true) a (r .slots) refl once in
-    let set₀ : (e : ℕ) → getD (set (s STATE) a 0) e 0 ≡ cond (eqb e a) 0 (at s STATE e) = λ e. set-cond (s STATE) a 0 e (omega (arith, g .sized .words 18 (lit< tt))) in
-    record {
-      sizes = r .sizes;
-      clock = r .clock;
+    let used : (e : ℕ) → 0 < occurs e (r .people .slots) → alive (s STATE) e ≡ true = λ e o. exact-used (alive (s STATE)) (r .people .slots) e (r .people .allSlots) o in
+    let once : occurs a (r .people .slots) ≡ 1 = rw there at (r .people .allSlots a) in
+    let alone : keep (λ e. eqb e a) (r .people .slots) ≡ a ∷ [] = keep-once (λ e. true) a (r .people .slots) refl once in
+    let set₀ : (e : ℕ) → getD (set (s STATE) a 0) e 0 ≡ cond (eqb e a) 0 (at s STATE e) = λ e. set-cond (s STATE) a 0 e (omega (arith, g .sized .words STATE (lit< tt))) in
+    agrees-people (wrote-leave (wrote-none s) a) r _ refl (record {
       running = rw (set-zero (s RUNNING) 0);
-      slots = keep (λ b. not (eqb b a)) (r .slots);
-      allSlots = ends (s STATE) (set (s STATE) a 0) (λ e. eqb e a) set₀ (r .slots) (r .allSlots);
-      live = ap (those (λ x. not (eqb (x .id) (actorId s a)))) (r .live) ∙ those-map (λ x. not (eqb (x .id) (actorId s a))) (actorAt s) (r .slots)
-          ∙ ap (map (actorAt s)) (keep-same-on (λ b. not (eqb (actorId s b) (actorId s a))) (λ b. not (eqb b a)) (r .slots) (λ b o. ap not (id-eqb k s g b a (used b o) there)))
-          ∙ map-same-on (actorAt s) (actorAt (leave s a)) (keep (λ b. not (eqb b a)) (r .slots)) (λ b o. rw (other (s PRIORITY) a 0 b (not-true (eqb b a) (keep-in (λ b. not (eqb b a)) (r .slots) b o .1))));
-      wornSlots = rw alone at (worn-ends (s STATE) (set (s STATE) a 0) (λ e. eqb e a) set₀ 64 (s AGE) (r .slots) (l .people .worn) (λ e o. omega (arith, alive-slot k s g e (used e o), g .range .fewActors)) (r .allSlots) (r .wornSlots));
-      allBoxes = r .allBoxes;
-      boxes = r .boxes;
-      palms = r .palms;
-      allPalms = r .allPalms;
-      hands = r .hands;
-      allDatas = r .allDatas;
-      clocks = r .clocks;
-      allClocks = r .allClocks;
-      timers = r .timers;
-      wornClocks = r .wornClocks;
-      bonds = r .bonds;
-      allBonds = r .allBonds;
-      links = r .links;
-      eyes = r .eyes;
-      allEyes = r .allEyes;
-      monitors = r .monitors;
-      wornEyes = r .wornEyes;
-    }
+      slots = keep (λ b. not (eqb b a)) (r .people .slots);
+      allSlots = ends (s STATE) (set (s STATE) a 0) (λ e. eqb e a) set₀ (r .people .slots) (r .people .allSlots);
+      live = ap (those (λ x. not (eqb (x .id) (actorId s a)))) (r .people .live) ∙ those-map (λ x. not (eqb (x .id) (actorId s a))) (actorAt s) (r .people .slots)
+          ∙ ap (map (actorAt s)) (keep-same-on (λ b. not (eqb (actorId s b) (actorId s a))) (λ b. not (eqb b a)) (r .people .slots) (λ b o. ap not (id-eqb k s g b a (used b o) there)))
+          ∙ map-same-on (actorAt s) (actorAt (leave s a)) (keep (λ b. not (eqb b a)) (r .people .slots)) (λ b o. rw (other (s PRIORITY) a 0 b (not-true (eqb b a) (keep-in (λ b. not (eqb b a)) (r .people .slots) b o .1))));
+      wornSlots = rw alone at (worn-ends (s STATE) (set (s STATE) a 0) (λ e. eqb e a) set₀ 64 (s AGE) (r .people .slots) (l .people .worn) (λ e o. omega (arith, alive-slot k s g e (used e o), g .range .fewActors)) (r .people .allSlots) (r .people .wornSlots));
+    })
 
 -- ---- all of an exit
 -- the notices and the monitors that end are the same by other columns that are the same
@@ -486,8 +452,8 @@ module _ (k : Caps) (s : State) (l : Ledger) (g : Good k s) (r : Agrees k l s) (
   unfolding cleared
   emptied-agrees =
       let m : a < k .actors = omega (arith, g .head .0 .1) in
-      let w : letGo s a STATE ≡ s STATE = letGo-else s a STATE (refl, refl, refl, refl, refl, refl, refl, refl, refl) refl in
-      let v : letGo s a AGE ≡ s AGE = letGo-else s a AGE (refl, refl, refl, refl, refl, refl, refl, refl, refl) refl in
+      let w : letGo s a STATE ≡ s STATE = wrote-letGo s a .cols STATE refl in
+      let v : letGo s a AGE ≡ s AGE = wrote-letGo s a .cols AGE refl in
       let h = dropAll-agrees k (letGo s a) (handless (actorId s a) l) a (letGo-keeps k s a g m) (letGo-agrees-at k s l g r a runs-there) (rw w runs-there) in
       rw (v, letGo-arrived s a) at h
 
@@ -503,7 +469,7 @@ module _ (k : Caps) (s : State) (l : Ledger) (g : Good k s) (r : Agrees k l s) (
       let v = t .state in
       let ns = linkNotes k s₀ a me reason (k .actors) in
       let p = linkGone k s₀ a me (k .actors) in
-      let e = eyes-same s₀ v a me reason (k .monitors) (c .beside 36 refl) (c .beside 35 refl) (c .beside 37 refl) (c .beside 21 refl) in
+      let e = eyes-same s₀ v a me reason (k .monitors) (c .wrote .cols WATCHED refl) (c .wrote .cols WATCHER refl) (c .wrote .cols MONITOR-AGE refl) (c .wrote .cols AGE refl) in
       let all : ns ++ eyeNotes s₀ a me reason (k .monitors) ≡ notices (cleared me l) me reason =
       subst (λ (i : ℕ). linkNotes k s₀ a i reason (k .actors) ++ eyeNotes s₀ a i reason (k .monitors) ≡ notices (cleared me l) i reason) (w .id)
       (notices-are k s₀ (cleared me l) (w .good) emptied-agrees a reason (going-alive w)) in
@@ -535,10 +501,10 @@ module _ (k : Caps) (s : State) (l : Ledger) (g : Good k s) (r : Agrees k l s) (
       let gu = w .going .good in
       let x = dropMonitors-ends k a u (gu .sized) in
       let y = dropTimers-ends k a m (dropMonitors-keeps k a u gu .sized) in
-      let h : at u WATCHER e ≡ cond (below (emptied s a WATCHED) (suc a) (k .monitors) e) 0 (at (emptied s a) WATCHER e) = rw (c .beside 36 refl, c .beside 35 refl) at (w .watcher e) in
-      rw (y .beside 35 refl) (x .watcher e ∙ rw h
+      let h : at u WATCHER e ≡ cond (below (emptied s a WATCHED) (suc a) (k .monitors) e) 0 (at (emptied s a) WATCHER e) = rw (c .wrote .cols WATCHED refl, c .wrote .cols WATCHER refl) at (w .watcher e) in
+      rw (y .wrote .cols WATCHER refl) (x .watcher e ∙ rw h
       (watcher-left (k .monitors) e (seenBy (emptied s a) a e) (at (emptied s a) WATCHER e) (suc a)
-      (λ q. List·getD-eq-default (emptied s a WATCHER) 0 {n = e} (omega (arith, ltb-false e (k .monitors) q, emptied-going k s g a run .good .sized .words 35 (lit< tt)))) (λ z. omega arith)))
+      (λ q. List·getD-eq-default (emptied s a WATCHER) 0 {n = e} (omega (arith, ltb-false e (k .monitors) q, emptied-going k s g a run .good .sized .words WATCHER (lit< tt)))) (λ z. omega arith)))
 
   -- and the ages of the monitors' slots
   ages-left : dropped k a (farewell k a (actorId s a) reason s .state) MONITOR-AGE ≡ emptied s a MONITOR-AGE
@@ -546,7 +512,7 @@ module _ (k : Caps) (s : State) (l : Ledger) (g : Good k s) (r : Agrees k l s) (
       let u = farewell k a (actorId s a) reason s .state in
       let w = monitors-cut k s g a reason run in
       let gu = w .going .good in
-      dropTimers-ends k a (dropMonitors a (k .monitors) u) (dropMonitors-keeps k a u gu .sized) .beside 37 refl ∙ dropMonitors-ends k a u (gu .sized) .age ∙ w .age ∙ links-cut k s g a reason run .beside 37 refl
+      dropTimers-ends k a (dropMonitors a (k .monitors) u) (dropMonitors-keeps k a u gu .sized) .wrote .cols MONITOR-AGE refl ∙ dropMonitors-ends k a u (gu .sized) .age ∙ w .age ∙ links-cut k s g a reason run .wrote .cols MONITOR-AGE refl
 
   -- THE LAW of an actor that ends: the reckoning has nothing of it, and the notices that were sent
   pub departed-agrees : Agrees k (departed (actorId s a) reason (farewell k a (actorId s a) reason s .sent) l) (leave (dropped k a (farewell k a (actorId s a) reason s .state)) a)
@@ -567,10 +533,10 @@ module _ (k : Caps) (s : State) (l : Ledger) (g : Good k s) (r : Agrees k l s) (
       let f = dropTimers a (k .timers) m in
       let gf = dropTimers-keeps k a m gm in
       let y = dropTimers-ends k a m (gm .sized) in
-      let im : actorId m a ≡ me = ap (λ (c : List ℕ). idOf 64 (getD c a 0) a) (x .beside 21 refl) ∙ w .going .id in
-      let if : actorId f a ≡ me = ap (λ (c : List ℕ). idOf 64 (getD c a 0) a) (y .beside 21 refl) ∙ im in
-      let vm : alive (m STATE) a ≡ true = ap (λ (c : List ℕ). alive c a) (x .beside 18 refl) ∙ going-alive (w .going) in
-      let vf : alive (f STATE) a ≡ true = ap (λ (c : List ℕ). alive c a) (y .beside 18 refl) ∙ vm in
+      let im : actorId m a ≡ me = ap (λ (c : List ℕ). idOf 64 (getD c a 0) a) (x .wrote .cols AGE refl) ∙ w .going .id in
+      let if : actorId f a ≡ me = ap (λ (c : List ℕ). idOf 64 (getD c a 0) a) (y .wrote .cols AGE refl) ∙ im in
+      let vm : alive (m STATE) a ≡ true = ap (λ (c : List ℕ). alive c a) (x .wrote .cols STATE refl) ∙ going-alive (w .going) in
+      let vf : alive (f STATE) a ≡ true = ap (λ (c : List ℕ). alive c a) (y .wrote .cols STATE refl) ∙ vm in
       let z = farewell-along k s l g r a reason run in
       let l₁ = left l₀ (take (t .sent) (notices l me reason)) (linkGone k s₀ a me (k .actors)) (eyeGone s₀ a (k .monitors)) (z .worn) in
       let l₂ = endMonitors (λ m. eqb (m .watcher) me) l₁ in
@@ -590,21 +556,18 @@ module _ (k : Caps) (s : State) (l : Ledger) (g : Good k s) (r : Agrees k l s) (
       a₄
 
 -- THE THEOREM of exit, and the reckoning
-pub exit-agrees : (reason : ℕ) (k : Caps) (s : State) (l : Ledger) → Good k s → Agrees k l s →
-    Agrees k (entered (record { call = exit reason; answer = sayEnded (exitRule reason k s .ans) }) l) (exitRule reason k s .state)
-unfolding exitRule entered done
-exit-agrees reason k s l g r =
+pub exit-agrees : (reason : ℕ) → Agreed (exit reason)
+unfolding entered
+exit-agrees reason k s l g r p =
     let a = runner s - 1 in
-    split (eqb (runner s) 0) (λ q. rw q r)
-    (λ q. split (ltb 65535 reason) (λ p. rw (q, p) r)
-    (λ p. let run : runner s ≡ suc a = omega (arith, eqb-false (runner s) 0 q) in
+    let run : runner s ≡ suc a = omega (arith, eqb-false (runner s) 0 (p .0)) in
     let t = farewell k a (runnerId s) reason s in
-    rw (q, p) (subst (λ (i : ℕ). Agrees k (departed i reason (t .sent) l) (leave (dropped k a (t .state)) a)) (sym (running-is k s g l r q)) (departed-agrees k s l g r a reason run))))
+    subst (λ (i : ℕ). Agrees k (departed i reason (t .sent) l) (leave (dropped k a (t .state)) a)) (sym (running-is k s g l r (p .0))) (departed-agrees k s l g r a reason run)
 
 -- "sent + lost": every notice of the reckoning was sent or lost
 pub exit-counts : (reason : ℕ) (k : Caps) (s : State) (l : Ledger) → Good k s → Agrees k l s → eqb (runner s) 0 ≡ false → reason ≤ 65535 →
     exitRule reason k s .ans .sent + exitRule reason k s .ans .lost ≡ length (notices l (l .people .running) reason)
-unfolding exitRule
+unfolding ruled
 exit-counts reason k s l g r q h =
     let a = runner s - 1 in
     let run : runner s ≡ suc a = omega (arith, eqb-false (runner s) 0 q) in

@@ -3,12 +3,12 @@ use Prim.Native.Nat.{ℕ, zero, suc, _+_, _-_, _≤_, _<_}
 use native.Mathlib.Omega.{arith}
 use mathlib.Core.Path.{_≡_, refl, sym, ap, subst, _∙_}
 use mathlib.Core.Logic.{⊎-elim}
-use mathlib.Core.Bool.{Bool, true, false, cond, not, _&&_, _||_, or-true}
-use mathlib.Core.List.{List}
+use mathlib.Core.Bool.{Bool, true, false, cond, not, _&&_}
+use mathlib.Core.List.{List, _++_}
 use native.Mathlib.Decide.{decLt}
 use lib.ListN.{length, getD, set, length-set, List·getD-eq-default}
 use lib.Seq.{getD-set-same}
-use lib.Dec.{eqb, ltb, leb, lit<}
+use lib.Dec.{eqb, ltb, lit<}
 use borrow.Author.Tests.{eqb-true, eqb-false, eq-eqb, ne-eqb, ltb-true, ltb-false, lt-ltb, le-ltb}
 use Rattle.pools.proofs.BoolLaws.{split, true-false, flag-eq}
 use Rattle.pools.proofs.PoolLaws.{lowest-at, lowest-first}
@@ -27,33 +27,12 @@ use Rattle.rules.specs.Calls.{Told, cutLink, cutLinks, cutMonitor, cutMo
 use Rattle.rules.proofs.Good.{Good}
 use Rattle.rules.proofs.ColumnLaws.{alive-of, each-set, other}
 use Rattle.rules.proofs.TieLaws.{below, below-no, below-none, below-yes, cond-twice, joins-ends, joins-none, pair-once, step}
-use Rattle.rules.proofs.Ties.{Beside, apart, tie-beside, unwatch-ends, unwatch-keeps, untie-keeps}
+use Rattle.rules.proofs.Frame.{Wrote, wrote-none, wrote-over, wrote-still}
+use Rattle.rules.proofs.Frames.{LINKED, POSTED, WATCHES, wrote-post, wrote-tie}
+use Rattle.rules.proofs.Ties.{unwatch-ends, unwatch-keeps, untie-keeps}
 use Rattle.rules.proofs.Messages.{Fine, joined, post-heard, post-keeps, post-unheard, sender-fine}
 
--- ---- a message writes these columns, and no other
--- the counts of queue and arrivals, the free bits, states, reasons, what is waited for, queue, mailbox entries, arrivals, data entries
-abbrev pub touched : ℕ → Bool
-touched c = leb 8 c && leb c 9 || (leb 16 c && leb c 18 || (eqb c 20 || (leb 23 c && leb c 32 || eqb c 43)))
-
--- a message that joins a mailbox
-joined-beside : (k : Caps) (s : State) (a sender head : ℕ) (payload : List ℕ) → Beside touched s (joined k s a sender head payload)
-unfolding enlist push poke with-col takeBit
-joined-beside k s a sender head payload c q =
-    simp (apart touched c 9 refl q, apart touched c 30 refl q, apart touched c 29 refl q, apart touched c 28 refl q, apart touched c 16 refl q, apart touched c 43 refl q, apart touched c 32 refl q, apart touched c 31 refl q, apart touched c 17 refl q)
-
--- an actor that is woken
-wake-beside : (s : State) (a reason : ℕ) → Beside touched s (wake s a reason)
-unfolding ready unwait push poke with-col
-wake-beside s a reason c q =
-    simp (apart touched c 8 refl q, apart touched c 27 refl q, apart touched c 20 refl q, apart touched c 18 refl q, apart touched c 26 refl q, apart touched c 25 refl q, apart touched c 24 refl q, apart touched c 23 refl q)
-
--- a message
-pub post-beside : (k : Caps) (s : State) (a sender head : ℕ) (payload : List ℕ) → Beside touched s (post k s a sender head payload)
-post-beside k s a sender head payload c q =
-    split (hears s a sender head)
-    (λ h. rw (post-heard k s a sender head payload h) (joined-beside k (wake s a 1) a sender head payload c q ∙ wake-beside s a 1 c q))
-    (λ h. rw (post-unheard k s a sender head payload h) (joined-beside k s a sender head payload c q))
-
+-- ---- what a message leaves
 -- the owners of mailbox entries: one entry is the target's
 joined-owner : (k : Caps) (s : State) (a sender head : ℕ) (payload : List ℕ) → joined k s a sender head payload MAIL-OWNER ≡ set (s MAIL-OWNER) (mailFor k s) (suc a)
 unfolding enlist push poke with-col takeBit
@@ -119,9 +98,9 @@ module _ (k : Caps) (t : Told) (a me reason monitor : ℕ) where
   tell-lost q = rw q
 
   -- it writes what a message writes
-  pub tell-beside : Beside touched (t .state) (tell k t a me reason monitor .state)
-  tell-beside c q =
-      split (hasRoom k (t .state)) (λ r. rw (tell-sent r) (post-beside k (t .state) a me (packed 4 1 0) (exitBytes me reason monitor) c q)) (λ r. rw (tell-lost r))
+  pub tell-wrote : Wrote POSTED (t .state) (tell k t a me reason monitor .state)
+  tell-wrote =
+      split (hasRoom k (t .state)) (λ r. rw (tell-sent r) (wrote-post k (t .state) a me (packed 4 1 0) (exitBytes me reason monitor))) (λ r. rw (tell-lost r) (wrote-still POSTED (t .state)))
 
 -- to another live actor
 pub tell-going : (k : Caps) (t : Told) (a b me reason monitor : ℕ) → Going k a me (t .state) → alive (t .state STATE) b ≡ true → (b ≡ a → ⊥) → Going k a me (tell k t b me reason monitor .state)
@@ -129,10 +108,10 @@ tell-going k t a b me reason monitor w there n =
     let s = t .state in
     split (hasRoom k s)
     (λ r. let u = post k s b me (packed 4 1 0) (exitBytes me reason monitor) in
-    let p = post-beside k s b me (packed 4 1 0) (exitBytes me reason monitor) in
+    let p = wrote-post k s b me (packed 4 1 0) (exitBytes me reason monitor) .cols in
     let f : Fine (s AGE) me (packed 4 1 0) (exitBytes me reason monitor) = subst (λ (i : ℕ). Fine (s AGE) i (packed 4 1 0) (exitBytes i reason monitor)) (w .id) (exit-fine k s a reason monitor (w .good) (going-alive w)) in
     rw (tell-sent k t b me reason monitor r)
-    (going-on u w (post-keeps k s b (w .good) there me (packed 4 1 0) (exitBytes me reason monitor) r f) (p 7 refl) (p 21 refl) (p 22 refl)
+    (going-on u w (post-keeps k s b (w .good) there me (packed 4 1 0) (exitBytes me reason monitor) r f) (p RUNNING refl) (p AGE refl) (p HAND refl)
     (rw (post-owner k s b me (packed 4 1 0) (exitBytes me reason monitor)) (set-none (s MAIL-OWNER) (mailFor k s) (suc b) (suc a) (λ e. n (omega arith)) (λ e. omega arith) (w .mail)))))
     (λ r. rw (tell-lost k t b me reason monitor r) w)
 
@@ -176,13 +155,13 @@ partner-there k s a b e g l q =
     (joins-ends (s LINK-ONE) (s LINK-TWO) (suc a) (suc b) e q)
 
 -- the columns of links, and those that a message writes
-abbrev pub linkWrites : ℕ → Bool
-linkWrites c = touched c || (leb 33 c && leb c 34)
+abbrev pub LINK-CUT : List ℕ
+LINK-CUT = LINKED ++ POSTED
 
 -- the links of slot a with the slots below b have ended, and nothing else of links, nor of what no message writes, changed
 pub record Cut (k : Caps) (a me b : ℕ) (s u : State) : Type 0 where
   pub going : Going k a me u
-  pub beside : Beside linkWrites s u
+  pub wrote : Wrote LINK-CUT s u
   pub joined : (c e : ℕ) → e < k .links → joins (u LINK-ONE) (u LINK-TWO) (suc a) (suc c) e ≡ not (ltb c b) && joins (s LINK-ONE) (s LINK-TWO) (suc a) (suc c) e
 
 module _ (k : Caps) (a me reason b : ℕ) (t : Told) where
@@ -211,14 +190,13 @@ pub untied : (k : Caps) (s u : State) (a me b e : ℕ) → Cut k a me b s u → 
 unfolding tie poke with-col pairRule
 untied k s u a me b e w l q =
     let g = w .going .good in
-    let x = tie-beside k u g e 0 0 in
     record {
       going = going-on (tie u e 0 0) (w .going) (untie-keeps k u g e l) refl refl refl (w .going .mail);
-      beside = λ c z. x c (split (leb 33 c && leb c 34) (λ p. true-false (linkWrites c) (rw p (or-true (touched c))) z) (λ p. p)) ∙ w .beside c z;
+      wrote = wrote-over LINK-CUT (w .wrote) (wrote-tie (wrote-none u) e 0 0) refl;
       joined = λ c d m.
           joins-cut (k .links) (u LINK-ONE) (u LINK-TWO) (suc a) (suc b) e
           (λ d m j. pair-once (k .links) (u LINK-ONE) (u LINK-TWO) (g .pairs) (suc a) (suc b) d e m l (λ z. omega arith) (λ z. omega arith) j q)
-          l (omega (arith, g .sized .words 33 (lit< tt))) (λ z. omega arith) q (suc c) d (λ z. omega arith) m
+          l (omega (arith, g .sized .words LINK-ONE (lit< tt))) (λ z. omega arith) q (suc c) d (λ z. omega arith) m
           ∙ split (eqb c b)
           (λ i. let v = eqb-true c b i in rw (eq-eqb (suc c) (suc b) (ap suc v), lt-ltb c (suc b) (omega arith)))
           (λ i. let v = eqb-false c b i in rw (ne-eqb (suc c) (suc b) (λ z. v (omega arith)), w .joined c d m, step b c i));
@@ -227,18 +205,18 @@ untied k s u a me b e w l q =
 -- a notice leaves the links as they are
 told-cut : (k : Caps) (s : State) (t : Told) (a me b c reason : ℕ) → Cut k a me c s (t .state) → alive (t .state STATE) b ≡ true → (b ≡ a → ⊥) → Cut k a me c s (tell k t b me reason 0 .state)
 told-cut k s t a me b c reason w there n =
-    let p = tell-beside k t b me reason 0 in
+    let p = tell-wrote k t b me reason 0 in
     record {
       going = tell-going k t a b me reason 0 (w .going) there n;
-      beside = λ c z. p c (split (touched c) (λ q. true-false (linkWrites c) (rw q) z) (λ q. q)) ∙ w .beside c z;
-      joined = λ c e l. rw (p 33 refl, p 34 refl) (w .joined c e l);
+      wrote = wrote-over LINK-CUT (w .wrote) p refl;
+      joined = λ c e l. rw (p .cols LINK-ONE refl, p .cols LINK-TWO refl) (w .joined c e l);
     }
 
 -- a slot with which there is no link
 uncut : (k : Caps) (s u : State) (a me b : ℕ) → Cut k a me b s u → ltb (linkOf k u (suc a) (suc b)) (k .links) ≡ false → Cut k a me (suc b) s u
 uncut k s u a me b w q = record {
   going = w .going;
-  beside = w .beside;
+  wrote = w .wrote;
   joined = λ c e l. split (eqb c b)
       (λ i. let v = eqb-true c b i in rw (v, lt-ltb b (suc b) (omega arith)) (lowest-first (joins (u LINK-ONE) (u LINK-TWO) (suc a) (suc b)) (k .links) e (omega (arith, ltb-false (linkOf k u (suc a) (suc b)) (k .links) q))))
       (λ i. rw (step b c i) (w .joined c e l));
@@ -253,7 +231,7 @@ cutLink-cuts k s t a me reason b w =
     let e = linkOf k u (suc a) (suc b) in
     rw (cutLink-yes k a me reason b t q)
     (told-cut k s (told (t .sent) (t .lost) (tie u e 0 0)) a me b (suc b) reason (untied k s u a me b e w (f .0) (f .1))
-    (rw (tie-beside k u (w .going .good) e 0 0 18 refl) (f .2)) (f .3)))
+    (rw (wrote-tie (wrote-none u) e 0 0 .cols STATE refl) (f .2)) (f .3)))
     (λ q. rw (cutLink-no k a me reason b t q) (uncut k s u a me b w q))
 
 -- all below n
@@ -264,17 +242,17 @@ cutLinks-cuts k s t a me reason (suc n) w = cutLink-cuts k s (cutLinks k a me re
 
 -- before the first nothing has changed
 pub cut-none : (k : Caps) (s : State) (a me : ℕ) → Going k a me s → Cut k a me 0 s s
-cut-none k s a me w = record { going = w; beside = λ c z. refl; joined = λ c e l. rw (le-ltb c 0 (omega arith)) }
+cut-none k s a me w = record { going = w; wrote = wrote-still LINK-CUT s; joined = λ c e l. rw (le-ltb c 0 (omega arith)) }
 
 -- ---- monitors on slot a end
 -- the columns of monitors, and those that a message writes
-abbrev pub eyeWrites : ℕ → Bool
-eyeWrites c = touched c || (leb 35 c && leb c 37)
+abbrev pub EYE-CUT : List ℕ
+EYE-CUT = WATCHES ++ POSTED
 
 -- the monitors on slot a below n have ended, and nothing else of monitors, nor of what no message writes, changed
 pub record Unseen (k : Caps) (a me n : ℕ) (s u : State) : Type 0 where
   pub going : Going k a me u
-  pub beside : Beside eyeWrites s u
+  pub wrote : Wrote EYE-CUT s u
   pub age : u MONITOR-AGE ≡ s MONITOR-AGE
   pub watcher : (e : ℕ) → at u WATCHER e ≡ cond (below (s WATCHED) (suc a) n e) 0 (at s WATCHER e)
   pub watched : (e : ℕ) → at u WATCHED e ≡ cond (below (s WATCHED) (suc a) n e) 0 (at s WATCHED e)
@@ -305,8 +283,8 @@ unseen-one k s u a me i w l q =
     let x = unwatch-ends k u i (g .sized) l in
     let p = below (s WATCHED) (suc a) i in
     record {
-      going = going-on (unwatch u i) (w .going) (unwatch-keeps k u i g l) (x .beside 7 refl) (x .beside 21 refl) (x .beside 22 refl) (rw (x .beside 28 refl) (w .going .mail));
-      beside = λ c z. x .beside c (split (leb 35 c && leb c 37) (λ p. true-false (eyeWrites c) (rw p (or-true (touched c))) z) (λ p. p)) ∙ w .beside c z;
+      going = going-on (unwatch u i) (w .going) (unwatch-keeps k u i g l) (x .wrote .cols RUNNING refl) (x .wrote .cols AGE refl) (x .wrote .cols HAND refl) (rw (x .wrote .cols MAIL-OWNER refl) (w .going .mail));
+      wrote = wrote-over EYE-CUT (w .wrote) (x .wrote) refl;
       age = x .age ∙ w .age;
       watcher = λ e. x .watcher e ∙ ap (cond (eqb e i) 0) (w .watcher e) ∙ cond-twice (p e) (eqb e i) (at s WATCHER e) ∙ ap (λ (b : Bool). cond b 0 (at s WATCHER e)) (below-yes (s WATCHED) (suc a) i q e);
       watched = λ e. x .watched e ∙ ap (cond (eqb e i) 0) (w .watched e) ∙ cond-twice (p e) (eqb e i) (at s WATCHED e) ∙ ap (λ (b : Bool). cond b 0 (at s WATCHED e)) (below-yes (s WATCHED) (suc a) i q e);
@@ -315,20 +293,20 @@ unseen-one k s u a me i w l q =
 -- a notice leaves the monitors as they are
 told-unseen : (k : Caps) (s : State) (t : Told) (a me b n reason monitor : ℕ) → Unseen k a me n s (t .state) → alive (t .state STATE) b ≡ true → (b ≡ a → ⊥) → Unseen k a me n s (tell k t b me reason monitor .state)
 told-unseen k s t a me b n reason monitor w there d =
-    let p = tell-beside k t b me reason monitor in
+    let p = tell-wrote k t b me reason monitor in
     record {
       going = tell-going k t a b me reason monitor (w .going) there d;
-      beside = λ c z. p c (split (touched c) (λ q. true-false (eyeWrites c) (rw q) z) (λ q. q)) ∙ w .beside c z;
-      age = p 37 refl ∙ w .age;
-      watcher = λ e. rw (p 35 refl) (w .watcher e);
-      watched = λ e. rw (p 36 refl) (w .watched e);
+      wrote = wrote-over EYE-CUT (w .wrote) p refl;
+      age = p .cols MONITOR-AGE refl ∙ w .age;
+      watcher = λ e. rw (p .cols WATCHER refl) (w .watcher e);
+      watched = λ e. rw (p .cols WATCHED refl) (w .watched e);
     }
 
 -- a monitor on another
 unseen-other : (k : Caps) (s u : State) (a me i : ℕ) → Unseen k a me i s u → eqb (at s WATCHED i) (suc a) ≡ false → Unseen k a me (suc i) s u
 unseen-other k s u a me i w q = record {
   going = w .going;
-  beside = w .beside;
+  wrote = w .wrote;
   age = w .age;
   watcher = λ e. w .watcher e ∙ ap (λ (b : Bool). cond b 0 (at s WATCHER e)) (below-no (s WATCHED) (suc a) i q e);
   watched = λ e. w .watched e ∙ ap (λ (b : Bool). cond b 0 (at s WATCHED e)) (below-no (s WATCHED) (suc a) i q e);
@@ -347,7 +325,7 @@ cutMonitor-cuts k s t a me reason i l w =
     (λ q. let f = watcher-there k u a i (w .going .good) l (eqb-true (at u WATCHED i) (suc a) q) in
     rw (cutMonitor-yes k a me reason i t q)
     (told-unseen k s (told (t .sent) (t .lost) (unwatch u i)) a me (at u WATCHER i - 1) (suc i) reason (monitorId u i) (unseen-one k s u a me i w l (rw e at q))
-    (rw (unwatch-ends k u i (w .going .good .sized) l .beside 18 refl) (f .1)) (f .2)))
+    (rw (unwatch-ends k u i (w .going .good .sized) l .wrote .cols STATE refl) (f .1)) (f .2)))
     (λ q. rw (cutMonitor-no k a me reason i t q) (unseen-other k s u a me i w (rw e at q)))
 
 -- all below n
@@ -358,4 +336,4 @@ cutMonitors-cuts k s t a me reason (suc n) l w = cutMonitor-cuts k s (cutMonitor
 
 -- before the first nothing has changed
 pub unseen-none : (k : Caps) (s : State) (a me : ℕ) → Going k a me s → Unseen k a me 0 s s
-unseen-none k s a me w = record { going = w; beside = λ c z. refl; age = refl; watcher = λ e. rw (below-none (s WATCHED) (suc a) e); watched = λ e. rw (below-none (s WATCHED) (suc a) e) }
+unseen-none k s a me w = record { going = w; wrote = wrote-still EYE-CUT s; age = refl; watcher = λ e. rw (below-none (s WATCHED) (suc a) e); watched = λ e. rw (below-none (s WATCHED) (suc a) e) }

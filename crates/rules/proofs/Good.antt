@@ -3,11 +3,13 @@ use Prim.Native.Nat.{ℕ, _<_}
 use mathlib.Core.Path.{_≡_}
 use mathlib.Core.List.{[]}
 use Rattle.tables.specs.declared.Caps.{Caps}
-use Rattle.tables.specs.Columns.{DATA-FREE, MAIL-FREE}
+use Rattle.tables.specs.Columns.{DATA-FREE, MAIL-FREE, PAST}
 use Rattle.tables.specs.State.{State, InRange}
 use Rattle.tables.proofs.ViewLaws.{Sized}
 use Rattle.rules.specs.Rule.{Holds}
 use Rattle.rules.specs.Sound.{actorRule, arrivalRule, arrivedRule, bitsRule, capsRule, dataRule, filterRule, headRule, heldRule, idleRule, lateRules, linkRule, mailRule, monitorRule, onceRule, pairRule, plainRules, queueRule, runRule, sizeRule, soundAt, spareRule, timerRule, waitRule}
+use Rattle.rules.proofs.Groups.{Every, groups, ruleAt}
+use Rattle.rules.proofs.Part
 use Rattle.rules.proofs.SoundLaws.{of-range, range-of}
 
 pub record Good (k : Caps) (s : State) : Type 0 where
@@ -37,7 +39,7 @@ pub record Good (k : Caps) (s : State) : Type 0 where
 
 -- no column past the last
 abbrev pub Past : State → Type 0
-Past s = (c : ℕ) → 44 < c → s c ≡ []
+Past s = (c : ℕ) → PAST < c → s c ≡ []
 
 -- what the rules say is what the record says
 pub good-of : (k : Caps) (s : State) → Past s → Holds (soundAt k s) → Good k s
@@ -92,3 +94,34 @@ of-good k s g = (
     ((g .once, g .arrived), (g .held, (g .pairs, g .filters))),
   ),
 )
+
+-- ---- the groups of a sound state, and back
+pub every-of : (k : Caps) (s : State) → Good k s → Every groups k s
+every-of k s g = (g .caps, (g .head, (g .spare, (g .mailBits, (g .dataBits, (g .actors, (g .idle, (g .waits, (g .runs, (g .queue, (g .once, (g .mails, (g .arrivals, (g .arrived, (g .filters, (g .datas, (g .held, (g .links, (g .pairs, (g .monitors, (g .timers, tt)))))))))))))))))))))
+
+pub of-every : (k : Caps) (s : State) → InRange k → Sized k s → ((n : ℕ) → Holds (ruleAt groups n k s)) → Good k s
+of-every k s r z h = record {
+  range = r;
+  sized = z;
+  caps = h Part.caps;
+  head = h Part.head;
+  spare = h Part.spare;
+  mailBits = h Part.mailBits;
+  dataBits = h Part.dataBits;
+  actors = h Part.actors;
+  idle = h Part.idle;
+  waits = h Part.waits;
+  runs = h Part.runs;
+  queue = h Part.queue;
+  once = h Part.once;
+  mails = h Part.mails;
+  arrivals = h Part.arrivals;
+  arrived = h Part.arrived;
+  filters = h Part.filters;
+  datas = h Part.datas;
+  held = h Part.held;
+  links = h Part.links;
+  pairs = h Part.pairs;
+  monitors = h Part.monitors;
+  timers = h Part.timers;
+}

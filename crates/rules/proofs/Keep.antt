@@ -1,10 +1,11 @@
 -- A host call leaves a sound runtime sound, for every rule that keeps `Good`: so after a start no call answers 7. Assumes nothing.
-use Prim.Native.Nat.{ℕ, zero, suc, _+_, _<_}
+use Prim.Native.Nat.{ℕ, zero, suc, _<_}
 use native.Mathlib.Omega.{arith}
 use mathlib.Core.Path.{_≡_, refl, _∙_}
 use mathlib.Core.List.{List, [], _∷_, _++_}
 use lib.ListN.{length, getD, List·getD-append}
 use lib.Dec.{lit<}
+use Rattle.tables.specs.Columns.{ACTORS, DATAS, LINKS, MAILS, MONITORS, REST, TIMERS}
 use Rattle.tables.specs.declared.Caps.{Caps}
 use Rattle.tables.specs.State.{State, capsOf, glue, joinP, joinW}
 use Rattle.tables.proofs.ViewLaws.{view-join, view-past}
@@ -36,16 +37,16 @@ caps-join k s g =
     (word 3 (lit< tt) ∙ g .caps .1 .0) (word 4 (lit< tt) ∙ g .caps .1 .1 .0) (word 5 (lit< tt) ∙ g .caps .1 .1 .1)
   where
     one : (c : ℕ) → c < 6 → length (s c) ≡ 1
-    one zero l = g .sized .words 0 (lit< tt)
-    one (suc zero) l = g .sized .words 1 (lit< tt)
-    one (suc (suc zero)) l = g .sized .words 2 (lit< tt)
-    one (suc (suc (suc zero))) l = g .sized .words 3 (lit< tt)
-    one (suc (suc (suc (suc zero)))) l = g .sized .words 4 (lit< tt)
-    one (suc (suc (suc (suc (suc zero))))) l = g .sized .words 5 (lit< tt)
+    one zero l = g .sized .words ACTORS (lit< tt)
+    one (suc zero) l = g .sized .words MAILS (lit< tt)
+    one (suc (suc zero)) l = g .sized .words DATAS (lit< tt)
+    one (suc (suc (suc zero))) l = g .sized .words LINKS (lit< tt)
+    one (suc (suc (suc (suc zero)))) l = g .sized .words MONITORS (lit< tt)
+    one (suc (suc (suc (suc (suc zero))))) l = g .sized .words TIMERS (lit< tt)
     one (suc (suc (suc (suc (suc (suc c)))))) l = absurd (omega arith)
 
     word : (i : ℕ) → i < 6 → getD (joinW s) i 0 ≡ getD (s i) 0 0
-    word i l = head-word 42 s i (λ c m. one c (omega arith)) (omega arith)
+    word i l = head-word REST s i (λ c m. one c (omega arith)) (omega arith)
 
     same-caps : (a b c d e f : ℕ) (k : Caps) → a ≡ k .actors → b ≡ k .mails → c ≡ k .datas → d ≡ k .links → e ≡ k .monitors → f ≡ k .timers →
         record { actors = a; mails = b; datas = c; links = d; monitors = e; timers = f } ≡ k

@@ -1,6 +1,10 @@
 -- The theorems on the rules, and the laws that they cite.
 pub mod Advance
 pub mod Ages
+pub mod AgreeLaws
+pub mod Alike
+pub mod CallFrames
+pub mod Claims
 pub mod Clock
 pub mod ColumnLaws
 pub mod Departed
@@ -8,7 +12,11 @@ pub mod Examples
 pub mod Exit
 pub mod ExitAgrees
 pub mod ExitLaws
+pub mod Frame
+pub mod Frames
 pub mod Good
+pub mod Groups
+pub mod GuardLaws
 pub mod HostLaws
 pub mod Ids
 pub mod Keep
@@ -19,7 +27,10 @@ pub mod Messages
 pub mod MessagesAgree
 pub mod NotVacuous
 pub mod NoticeLaws
-pub mod Numbers
+pub mod Over
+pub mod PageLaws
+pub mod Part
+pub mod Patch
 pub mod Ready
 pub mod Rearm
 pub mod RuleLaws
@@ -31,6 +42,7 @@ pub mod Story
 pub mod StoryAnswers
 pub mod StoryEnds
 pub mod StoryOrder
+pub mod Table
 pub mod TieEnds
 pub mod TieLaws
 pub mod Ties

@@ -4,7 +4,7 @@ use native.Mathlib.Decide.{decLt}
 use native.Mathlib.Omega.{arith}
 use mathlib.Core.Path.{_≡_, refl, sym, ap, subst, _∙_, fun-ext}
 use mathlib.Core.Bool.{true, false, not, _&&_, _||_}
-use mathlib.Core.List.{List, _++_, map}
+use mathlib.Core.List.{List, [], _∷_, _++_, map}
 use mir.Val.{boolByte}
 use lib.ListN.{length, getD, set, take, replicate, length-map, length-replicate, getD-replicate, List·getD-eq-default}
 use lib.Seq.{getD-set-same, getD-take, length-take-le, sets}
@@ -25,20 +25,27 @@ use Rattle.records.proofs.ByteLaws.{length-le}
 use Rattle.records.specs.Records.{exitBytes, tickBytes}
 use Rattle.records.proofs.RecordLaws.{length-exit, length-tick}
 use Rattle.records.proofs.HeaderLaws.{class-packed, mark-packed, packed-fits, tag-packed}
+use Rattle.ledger.specs.Call.Op.{notify, receive}
 use Rattle.tables.specs.declared.Caps.{Caps}
 use Rattle.tables.specs.Columns.{AGE, ARRIVAL, ARRIVED, CLOCK, DATA-FREE, DEADLINE, HAND, LENGTH, MAIL-DATA, MAIL-FREE, MAIL-OWNER, PAYLOAD, QUEUE, QUEUED, REASON, RUNNING, SENDER, STATE, WANT-CLASS, WANT-SENDER, WANT-TAG}
 use Rattle.tables.specs.State.{State, at, head, poke, with-col}
 use Rattle.tables.specs.Action.{push, pull, takeBit, freeBit, write, blank}
 use Rattle.tables.proofs.ViewLaws.{Sized}
-use Rattle.tables.proofs.ActionLaws.{poke-other, poke-same, sized-free, sized-poke, sized-pull, sized-push, sized-take, sized-with, write-append}
+use Rattle.tables.proofs.ActionLaws.{poke-same, write-append}
 use Rattle.rules.specs.Rule.{Holds}
 use Rattle.rules.specs.Terms.{ANY-CLASS, ANY-SENDER, ANY-TAG, PAYLOAD-MOST, RUNNABLE, RUNS, WAITS, actorId, alive, fits, isActor, legal, runner, runnerId}
 use Rattle.rules.specs.Sound.{actorRule, arrivalRule, arrivedRule, bitsRule, dataRule, filterRule, headRule, headerRule, idleRule, lengthRule, mailRule, onceRule, pairRule, senderRule, waitRule}
 use Rattle.rules.specs.Actions.{dataFor, delist, enlist, fill, hasRoom, hears, letGo, mailFor, post, ready, stir, unfill, unwait, wake}
-use Rattle.rules.specs.Calls.{await, badWait, dataOf, deadlineAt, dropAll, dropFirst, firstMatch, firstOf, handOver, matchAt, notAtAll, notifyRule, receiveBare, receiveRule}
+use Rattle.rules.specs.Calls.{await, badWait, dataOf, deadlineAt, dropAll, dropFirst, firstMatch, firstOf, handOver, matchAt, notAtAll, receiveBare}
 use Rattle.rules.specs.Agrees.{arrivals, usedMail}
+use Rattle.rules.proofs.Claims.{Keeps}
+use Rattle.rules.proofs.Frame.{Beside, Wrote, beside-of, beside-over, wrote-free, wrote-none, wrote-poke, wrote-pull, wrote-sized, wrote-take, wrote-with}
+use Rattle.rules.proofs.Frames.{MAILED, beside-dropAll, wrote-await, wrote-enlist, wrote-letGo}
 use Rattle.rules.proofs.Good.{Good}
-use Rattle.rules.proofs.ColumnLaws.{alive-begins, alive-below, alive-of, alive-same, each-set, listed-exact, listed-joins, listed-leaves, listed-room, once-joins, of-alive, once-leaves, other, set-zero, spare-same}
+use Rattle.rules.proofs.GuardLaws.{held, neither}
+use Rattle.rules.proofs.Part
+use Rattle.rules.proofs.Patch.{_by_also_, done, patch, patch-living}
+use Rattle.rules.proofs.ColumnLaws.{alive-begins, alive-below, alive-of, alive-same, each-set, listed-exact, listed-joins, listed-leaves, listed-room, once-joins, of-alive, once-leaves, other, set-zero}
 use Rattle.rules.proofs.LedgerLaws.{alive-age, alive-slot, runner-alive}
 use Rattle.rules.proofs.Running.{wake-keeps}
 use Rattle.rules.proofs.MessageLaws.{DataAt, Wiped, Written, bits-free, bits-take, data-same, header-same, held-apart, held-drop, held-fill, held-let, held-once, held-pass, held-used, occurs-column, occurs-length, occurs-set, wiped, written}
@@ -57,25 +64,25 @@ pub unfill-is : (s : State) (d : ℕ) → unfill s d ≡ unfilled s d (wipe (s P
 unfolding unfill write poke with-col freeBit wipe
 unfill-is s d = refl
 
+-- which
+pub wrote-unfilled : {ws : List ℕ} {s t : State} → Wrote ws s t → (d : ℕ) (q : List ℕ) → length q ≡ length (t PAYLOAD) → Wrote (PAYLOAD ∷ LENGTH ∷ SENDER ∷ DATA-FREE ∷ ws) s (unfilled t d q)
+unfolding poke with-col freeBit
+wrote-unfilled w d q e = wrote-with (wrote-poke (wrote-poke (wrote-free w DATA-FREE d) SENDER d 0) LENGTH d 0) PAYLOAD q e
+
 -- and the payload area is wiped there
 pub wipe-is : (k : Caps) (s : State) (d : ℕ) → Sized k s → d < k .datas → Wiped (s PAYLOAD) (wipe (s PAYLOAD) d) d
 unfolding wipe
 wipe-is k s d z l = wiped (s PAYLOAD) (replicate 256 0) d (omega (arith, z .bytes)) (length-replicate {A = ℕ} 256 0) (λ i b. getD-replicate {A = ℕ} 256 i 0 0 b)
 
 module _ (k : Caps) (s : State) (d : ℕ) (q : List ℕ) (w : Wiped (s PAYLOAD) q d) (z : Sized k s) (l : d < k .datas) where
-  -- the columns keep their sizes
-  pub unfilled-sized : Sized k (unfilled s d q)
-  unfolding poke with-col freeBit
-  unfilled-sized = sized-with k _ PAYLOAD q (w .long) (sized-poke k _ LENGTH d 0 (sized-poke k _ SENDER d 0 (sized-free k s DATA-FREE d z)))
-
   -- the data entries are sound
   pub unfilled-datas : k .datas ≤ 256 → ((e : ℕ) → e < k .datas → Holds (dataRule s e)) → (e : ℕ) → e < k .datas → Holds (dataRule (unfilled s d q) e)
   unfolding poke with-col freeBit
   unfilled-datas few h e m =
-      let b : d / 64 < length (s DATA-FREE) = omega (arith, z .words 17 (lit< tt)) in
+      let b : d / 64 < length (s DATA-FREE) = omega (arith, z .words DATA-FREE (lit< tt)) in
       let f = released-same (s DATA-FREE) d b in
       each-set (DataAt (released (s DATA-FREE) d) (set (s SENDER) d 0) (set (s LENGTH) d 0) q (s AGE)) d e
-      (λ u. ((getD-set-same (s SENDER) d 0 0 (omega (arith, z .words 31 (lit< tt))), getD-set-same (s LENGTH) d 0 0 (omega (arith, z .words 32 (lit< tt)))), w .blank), λ u. true-false (free (released (s DATA-FREE) d) d) f (not-true (free (released (s DATA-FREE) d) d) u))
+      (λ u. ((getD-set-same (s SENDER) d 0 0 (omega (arith, z .words SENDER (lit< tt))), getD-set-same (s LENGTH) d 0 0 (omega (arith, z .words LENGTH (lit< tt)))), w .blank), λ u. true-false (free (released (s DATA-FREE) d) d) f (not-true (free (released (s DATA-FREE) d) d) u))
       (λ r. data-same (s DATA-FREE) (released (s DATA-FREE) d) (s SENDER) (set (s SENDER) d 0) (s LENGTH) (set (s LENGTH) d 0) (s PAYLOAD) q (s AGE) e
       (released-other (s DATA-FREE) d e (eqb-false e d r)) (other (s SENDER) d 0 e r) (other (s LENGTH) d 0 e r) (w .apart e r) (h e m))
 
@@ -89,43 +96,27 @@ module _ (k : Caps) (s : State) (g : Good k s) (a : ℕ) (l : a < k .actors) (d 
   let-apart : (e : ℕ) → e < k .mails → not (free (s MAIL-FREE) e) ≡ true → eqb (at s MAIL-DATA e - 1) d ≡ false
   let-apart e m u =
       let r = g .mails e m .1 u .1 in
-      ne-eqb (at s MAIL-DATA e - 1) d (λ x. held-apart (k .datas) (s MAIL-DATA) (s HAND) (s DATA-FREE) (g .held) d let-below e a (omega (arith, g .sized .words 29 (lit< tt))) (omega (arith, g .sized .words 22 (lit< tt))) (omega arith) h)
+      ne-eqb (at s MAIL-DATA e - 1) d (λ x. held-apart (k .datas) (s MAIL-DATA) (s HAND) (s DATA-FREE) (g .held) d let-below e a (omega (arith, g .sized .words MAIL-DATA (lit< tt))) (omega (arith, g .sized .words HAND (lit< tt))) (omega arith) h)
 
   -- an empty hand where there was one, and the others as they were
   let-hand : (P : ℕ → Type 0) → P 0 → (b : ℕ) → (P (at s HAND b)) → P (getD (set (s HAND) a 0) b 0)
   let-hand P y b n =
-      each-set (λ b. P (at s HAND b) → P (getD (set (s HAND) a 0) b 0)) a b (λ n. rw (getD-set-same (s HAND) a 0 0 (omega (arith, g .sized .words 22 (lit< tt)))) y) (λ r n. rw (other (s HAND) a 0 b r) n) n
+      each-set (λ b. P (at s HAND b) → P (getD (set (s HAND) a 0) b 0)) a b (λ n. rw (getD-set-same (s HAND) a 0 0 (omega (arith, g .sized .words HAND (lit< tt)))) y) (λ r n. rw (other (s HAND) a 0 b r) n) n
 
   -- sound as before
   pub let-good : Good k (poke (unfilled s d q) HAND a 0)
   unfolding poke with-col freeBit pairRule
-  let-good = record {
-    range = g .range;
-    sized = sized-poke k _ HAND a 0 (unfilled-sized k s d q w (g .sized) let-below);
-    caps = g .caps;
-    head = g .head;
-    spare = spare-same s (poke (unfilled s d q) HAND a 0) (refl, refl, refl, refl, refl, refl) (g .spare);
-    mailBits = g .mailBits;
-    dataBits = bits-free (k .datas) (s DATA-FREE) d let-below (g .dataBits);
-    actors = λ b m. (g .actors b m .0, (g .actors b m .1 .0, let-hand (λ x. x ≤ k .datas) (omega arith) b (g .actors b m .1 .1)));
-    idle = λ b m. (λ u. (g .idle b m .0 u .0, let-hand (λ x. x ≡ 0) refl b (g .idle b m .0 u .1)), g .idle b m .1);
-    waits = g .waits;
-    runs = g .runs;
-    queue = g .queue;
-    once = g .once;
-    mails = g .mails;
-    arrivals = g .arrivals;
-    arrived = g .arrived;
-    filters = λ e m u.
-        let r = let-apart e m (u .0) in
-        rw (other (s SENDER) d 0 (at s MAIL-DATA e - 1) r, header-same (s PAYLOAD) q (at s MAIL-DATA e - 1) (w .apart (at s MAIL-DATA e - 1) r)) (g .filters e m u);
-    datas = unfilled-datas k s d q w (g .sized) let-below (g .range .fewDatas) (g .datas);
-    held = held-let (k .datas) (s MAIL-DATA) (s HAND) (s DATA-FREE) (g .held) d let-below a (omega (arith, g .sized .words 22 (lit< tt))) h (omega (arith, g .sized .words 17 (lit< tt), let-below, g .range .fewDatas));
-    links = g .links;
-    pairs = g .pairs;
-    monitors = g .monitors;
-    timers = g .timers;
-  }
+  let-good =
+      patch k g (wrote-poke (wrote-unfilled (wrote-none s) d q (w .long)) HAND a 0) (
+      Part.dataBits by (bits-free (k .datas) (s DATA-FREE) d let-below (g .dataBits)) also
+      Part.actors by (λ b m. (g .actors b m .0, (g .actors b m .1 .0, let-hand (λ x. x ≤ k .datas) (omega arith) b (g .actors b m .1 .1)))) also
+      Part.idle by (λ b m. (λ u. (g .idle b m .0 u .0, let-hand (λ x. x ≡ 0) refl b (g .idle b m .0 u .1)), g .idle b m .1)) also
+      Part.filters by (λ e m u.
+      let r = let-apart e m (u .0) in
+      rw (other (s SENDER) d 0 (at s MAIL-DATA e - 1) r, header-same (s PAYLOAD) q (at s MAIL-DATA e - 1) (w .apart (at s MAIL-DATA e - 1) r)) (g .filters e m u)) also
+      Part.datas by (unfilled-datas k s d q w (g .sized) let-below (g .range .fewDatas) (g .datas)) also
+      Part.held by (held-let (k .datas) (s MAIL-DATA) (s HAND) (s DATA-FREE) (g .held) d let-below a (omega (arith, g .sized .words HAND (lit< tt))) h (omega (arith, g .sized .words DATA-FREE (lit< tt), let-below, g .range .fewDatas))) also
+      done) refl
 
 -- THE THEOREM of a hand that lets go
 pub letGo-keeps : (k : Caps) (s : State) (a : ℕ) → Good k s → a < k .actors → Good k (letGo s a)
@@ -140,6 +131,11 @@ letGo-keeps k s a g l =
 -- the state with data entry d taken and n its payload's length, where q is the payload area with the message in that entry
 abbrev pub filled : State → ℕ → ℕ → ℕ → List ℕ → State
 filled s d sender n q = with-col (poke (poke (takeBit s DATA-FREE d) SENDER d sender) LENGTH d n) PAYLOAD q
+
+-- which are four columns
+pub wrote-filled : {ws : List ℕ} {s t : State} → Wrote ws s t → (d sender n : ℕ) (q : List ℕ) → length q ≡ length (t PAYLOAD) → Wrote (PAYLOAD ∷ LENGTH ∷ SENDER ∷ DATA-FREE ∷ ws) s (filled t d sender n q)
+unfolding poke with-col takeBit
+wrote-filled w d sender n q e = wrote-with (wrote-poke (wrote-poke (wrote-take w DATA-FREE d) SENDER d sender) LENGTH d n) PAYLOAD q e
 
 -- the payload area with a message in entry d
 abbrev pub ink : State → ℕ → ℕ → List ℕ → List ℕ
@@ -176,87 +172,73 @@ module _ (k : Caps) (s : State) (g : Good k s) (a : ℕ) (there : alive (s STATE
 
     -- it has the sender
     sender-is : getD (set (s SENDER) d sender) d 0 ≡ sender
-    sender-is = getD-set-same (s SENDER) d sender 0 (omega (arith, g .sized .words 31 (lit< tt)))
+    sender-is = getD-set-same (s SENDER) d sender 0 (omega (arith, g .sized .words SENDER (lit< tt)))
 
     -- no mailbox entry names a free data entry
     fresh : (f : ℕ) → f < k .mails → not (free (s MAIL-FREE) f) ≡ true → eqb (at s MAIL-DATA f - 1) d ≡ false
     fresh f m u =
         let r = g .mails f m .1 u .1 in
-        ne-eqb (at s MAIL-DATA f - 1) d (λ x. true-false (free (s DATA-FREE) d) df (held-used (k .datas) (s MAIL-DATA) (s HAND) (s DATA-FREE) (g .held) d below f (omega (arith, g .sized .words 29 (lit< tt))) (omega arith)))
+        ne-eqb (at s MAIL-DATA f - 1) d (λ x. true-false (free (s DATA-FREE) d) df (held-used (k .datas) (s MAIL-DATA) (s HAND) (s DATA-FREE) (g .held) d below f (omega (arith, g .sized .words MAIL-DATA (lit< tt))) (omega arith)))
 
     -- the arrivals have room
     room : at s ARRIVED 0 < k .mails
-    room = listed-room (k .mails) (at s ARRIVED 0) (s ARRIVAL) (g .head .1 .1) (g .sized .words 30 (lit< tt)) (g .arrivals) (λ f. not (free (s MAIL-FREE) f)) e under (rw mf) (g .arrived)
+    room = listed-room (k .mails) (at s ARRIVED 0) (s ARRIVAL) (g .head .1 .1) (g .sized .words ARRIVAL (lit< tt)) (g .arrivals) (λ f. not (free (s MAIL-FREE) f)) e under (rw mf) (g .arrived)
 
     -- the count of arrivals, one up
     one-more : getD (set (s ARRIVED) 0 (at s ARRIVED 0 + 1)) 0 0 ≡ at s ARRIVED 0 + 1
-    one-more = getD-set-same (s ARRIVED) 0 (at s ARRIVED 0 + 1) 0 (omega (arith, g .sized .words 9 (lit< tt)))
+    one-more = getD-set-same (s ARRIVED) 0 (at s ARRIVED 0 + 1) 0 (omega (arith, g .sized .words ARRIVED (lit< tt)))
 
     -- the mailbox entry is the slot's
     owner-is : getD (set (s MAIL-OWNER) e (suc a)) e 0 - 1 ≡ a
-    owner-is = omega (arith, getD-set-same (s MAIL-OWNER) e (suc a) 0 (omega (arith, g .sized .words 28 (lit< tt))))
+    owner-is = omega (arith, getD-set-same (s MAIL-OWNER) e (suc a) 0 (omega (arith, g .sized .words MAIL-OWNER (lit< tt))))
 
     -- and names the data entry
     data-is : getD (set (s MAIL-DATA) e (suc d)) e 0 - 1 ≡ d
-    data-is = omega (arith, getD-set-same (s MAIL-DATA) e (suc d) 0 (omega (arith, g .sized .words 29 (lit< tt))))
+    data-is = omega (arith, getD-set-same (s MAIL-DATA) e (suc d) 0 (omega (arith, g .sized .words MAIL-DATA (lit< tt))))
 
     -- where the target does not wait for it, the message in its mailbox is sound
     pub enlist-good : Good k (enlist (filled s d sender (length payload) q) e a d)
     unfolding enlist push poke with-col takeBit pairRule
-    enlist-good = record {
-      range = g .range;
-      sized = sized-push k _ ARRIVAL ARRIVED e (sized-poke k _ MAIL-DATA e (suc d) (sized-poke k _ MAIL-OWNER e (suc a) (sized-take k _ MAIL-FREE e
-          (sized-with k _ PAYLOAD q (w .long) (sized-poke k _ LENGTH d (length payload) (sized-poke k _ SENDER d sender (sized-take k s DATA-FREE d (g .sized))))))));
-      caps = g .caps;
-      head = rw one-more (g .head .0, (g .head .1 .0, omega (arith, room)));
-      spare = spare-same s (enlist (filled s d sender (length payload) q) e a d) (refl, refl, refl, refl, refl, refl) (g .spare);
-      mailBits = bits-take (k .mails) (s MAIL-FREE) e under (g .mailBits);
-      dataBits = bits-take (k .datas) (s DATA-FREE) d below (g .dataBits);
-      actors = g .actors;
-      idle = g .idle;
-      waits = g .waits;
-      runs = g .runs;
-      queue = g .queue;
-      once = g .once;
-      mails = λ f m. each-set (λ f. Holds (mailRule k (enlist (filled s d sender (length payload) q) e a d) f)) e f
-          (rw (taken-mail, owner-is)
-          (λ u. true-false false u refl, λ u. ((omega (arith, getD-set-same (s MAIL-OWNER) e (suc a) 0 (omega (arith, g .sized .words 28 (lit< tt)))), there), (omega (arith, getD-set-same (s MAIL-DATA) e (suc d) 0 (omega (arith, g .sized .words 29 (lit< tt)))), omega (arith, getD-set-same (s MAIL-DATA) e (suc d) 0 (omega (arith, g .sized .words 29 (lit< tt))), below)))))
-          (λ r. rw (taken-other (s MAIL-FREE) e f (eqb-false f e r), other (s MAIL-OWNER) e (suc a) f r, other (s MAIL-DATA) e (suc d) f r) (g .mails f m));
-      arrivals = rw one-more (listed-joins (k .mails) (at s ARRIVED 0) (s ARRIVAL) (g .head .1 .1) (g .sized .words 30 (lit< tt)) (g .arrivals) e under room);
-      arrived = rw one-more (once-joins (k .mails) (at s ARRIVED 0) (s ARRIVAL) (g .head .1 .1) (g .sized .words 30 (lit< tt)) (g .arrivals)
-          (λ f. not (free (s MAIL-FREE) f)) (λ f. not (free (taken (s MAIL-FREE) e) f)) e room (rw mf) (rw taken-mail) (λ f n. rw (taken-other (s MAIL-FREE) e f n)) (g .arrived));
-      filters = λ f m. each-set (λ f. f < k .mails → Holds (filterRule (enlist (filled s d sender (length payload) q) e a d) f)) e f
-          (λ m. rw (owner-is, data-is, sender-is, w .header)
-          (λ u. let y : eqb (at s STATE a) WAITS ≡ true = eq-eqb (at s STATE a) WAITS (u .1) in rw (rw y at deaf)))
-          (λ r m. rw (taken-other (s MAIL-FREE) e f (eqb-false f e r), other (s MAIL-OWNER) e (suc a) f r, other (s MAIL-DATA) e (suc d) f r)
-          (λ u. let c = fresh f m (u .0) in
-          rw (other (s SENDER) d sender (at s MAIL-DATA f - 1) c, header-same (s PAYLOAD) q (at s MAIL-DATA f - 1) (w .apart (at s MAIL-DATA f - 1) c)) (g .filters f m u)))
-          m;
-      datas = λ f m. each-set (DataAt (taken (s DATA-FREE) d) (set (s SENDER) d sender) (set (s LENGTH) d (length payload)) q (s AGE)) d f
-          (rw (taken-data, sender-is, getD-set-same (s LENGTH) d (length payload) 0 (omega (arith, g .sized .words 32 (lit< tt))), w .header)
-          (λ u. true-false false u refl, λ u. ((fine .headed, fine .lengthy), (fine .sent, w .past))))
-          (λ r. data-same (s DATA-FREE) (taken (s DATA-FREE) d) (s SENDER) (set (s SENDER) d sender) (s LENGTH) (set (s LENGTH) d (length payload)) (s PAYLOAD) q (s AGE) f
-          (taken-other (s DATA-FREE) d f (eqb-false f d r)) (other (s SENDER) d sender f r) (other (s LENGTH) d (length payload) f r) (w .apart f r) (g .datas f m));
-      held = held-fill (k .datas) (s MAIL-DATA) (s HAND) (s DATA-FREE) (g .held) d below e (omega (arith, g .sized .words 29 (lit< tt))) (g .mails e under .0 mf .1) df;
-      links = g .links;
-      pairs = g .pairs;
-      monitors = g .monitors;
-      timers = g .timers;
-    }
+    enlist-good =
+        patch k g (wrote-enlist (wrote-filled (wrote-none s) d sender (length payload) q (w .long)) e a d) (
+        Part.head by (rw one-more (g .head .0, (g .head .1 .0, omega (arith, room)))) also
+        Part.mailBits by (bits-take (k .mails) (s MAIL-FREE) e under (g .mailBits)) also
+        Part.dataBits by (bits-take (k .datas) (s DATA-FREE) d below (g .dataBits)) also
+        Part.mails by (λ f m. each-set (λ f. Holds (mailRule k (enlist (filled s d sender (length payload) q) e a d) f)) e f
+        (rw (taken-mail, owner-is)
+        (λ u. true-false false u refl, λ u. ((omega (arith, getD-set-same (s MAIL-OWNER) e (suc a) 0 (omega (arith, g .sized .words MAIL-OWNER (lit< tt)))), there), (omega (arith, getD-set-same (s MAIL-DATA) e (suc d) 0 (omega (arith, g .sized .words MAIL-DATA (lit< tt)))), omega (arith, getD-set-same (s MAIL-DATA) e (suc d) 0 (omega (arith, g .sized .words MAIL-DATA (lit< tt))), below)))))
+        (λ r. rw (taken-other (s MAIL-FREE) e f (eqb-false f e r), other (s MAIL-OWNER) e (suc a) f r, other (s MAIL-DATA) e (suc d) f r) (g .mails f m))) also
+        Part.arrivals by (rw one-more (listed-joins (k .mails) (at s ARRIVED 0) (s ARRIVAL) (g .head .1 .1) (g .sized .words ARRIVAL (lit< tt)) (g .arrivals) e under room)) also
+        Part.arrived by (rw one-more (once-joins (k .mails) (at s ARRIVED 0) (s ARRIVAL) (g .head .1 .1) (g .sized .words ARRIVAL (lit< tt)) (g .arrivals)
+        (λ f. not (free (s MAIL-FREE) f)) (λ f. not (free (taken (s MAIL-FREE) e) f)) e room (rw mf) (rw taken-mail) (λ f n. rw (taken-other (s MAIL-FREE) e f n)) (g .arrived))) also
+        Part.filters by (λ f m. each-set (λ f. f < k .mails → Holds (filterRule (enlist (filled s d sender (length payload) q) e a d) f)) e f
+        (λ m. rw (owner-is, data-is, sender-is, w .header)
+        (λ u. let y : eqb (at s STATE a) WAITS ≡ true = eq-eqb (at s STATE a) WAITS (u .1) in rw (rw y at deaf)))
+        (λ r m. rw (taken-other (s MAIL-FREE) e f (eqb-false f e r), other (s MAIL-OWNER) e (suc a) f r, other (s MAIL-DATA) e (suc d) f r)
+        (λ u. let c = fresh f m (u .0) in
+        rw (other (s SENDER) d sender (at s MAIL-DATA f - 1) c, header-same (s PAYLOAD) q (at s MAIL-DATA f - 1) (w .apart (at s MAIL-DATA f - 1) c)) (g .filters f m u)))
+        m) also
+        Part.datas by (λ f m. each-set (DataAt (taken (s DATA-FREE) d) (set (s SENDER) d sender) (set (s LENGTH) d (length payload)) q (s AGE)) d f
+        (rw (taken-data, sender-is, getD-set-same (s LENGTH) d (length payload) 0 (omega (arith, g .sized .words LENGTH (lit< tt))), w .header)
+        (λ u. true-false false u refl, λ u. ((fine .headed, fine .lengthy), (fine .sent, w .past))))
+        (λ r. data-same (s DATA-FREE) (taken (s DATA-FREE) d) (s SENDER) (set (s SENDER) d sender) (s LENGTH) (set (s LENGTH) d (length payload)) (s PAYLOAD) q (s AGE) f
+        (taken-other (s DATA-FREE) d f (eqb-false f d r)) (other (s SENDER) d sender f r) (other (s LENGTH) d (length payload) f r) (w .apart f r) (g .datas f m))) also
+        Part.held by (held-fill (k .datas) (s MAIL-DATA) (s HAND) (s DATA-FREE) (g .held) d below e (omega (arith, g .sized .words MAIL-DATA (lit< tt))) (g .mails e under .0 mf .1) df) also
+        done) refl
 
 -- ---- the target is stirred
 -- to wake the target after the message joined its mailbox, or before, is the same
 pub wake-early : (s : State) (d sender n : ℕ) (q : List ℕ) (e a : ℕ) → wake (enlist (filled s d sender n q) e a d) a 1 ≡ enlist (filled (wake s a 1) d sender n q) e a d
 unfolding enlist push poke with-col takeBit ready unwait
 wake-early s d sender n q e a = fun-ext (λ c.
-    split (eqb c 8) (λ r. rw (eqb-true c 8 r)) (λ q₁.
-    split (eqb c 27) (λ r. rw (eqb-true c 27 r)) (λ q₂.
-    split (eqb c 20) (λ r. rw (eqb-true c 20 r)) (λ q₃.
-    split (eqb c 18) (λ r. rw (eqb-true c 18 r)) (λ q₄.
-    split (eqb c 26) (λ r. rw (eqb-true c 26 r)) (λ q₅.
-    split (eqb c 25) (λ r. rw (eqb-true c 25 r)) (λ q₆.
-    split (eqb c 24) (λ r. rw (eqb-true c 24 r)) (λ q₇.
-    split (eqb c 23) (λ r. rw (eqb-true c 23 r)) (λ q₈. simp (q₁, q₂, q₃, q₄, q₅, q₆, q₇, q₈))))))))))
+    split (eqb c QUEUED) (λ r. rw (eqb-true c QUEUED r)) (λ q₁.
+    split (eqb c QUEUE) (λ r. rw (eqb-true c QUEUE r)) (λ q₂.
+    split (eqb c REASON) (λ r. rw (eqb-true c REASON r)) (λ q₃.
+    split (eqb c STATE) (λ r. rw (eqb-true c STATE r)) (λ q₄.
+    split (eqb c DEADLINE) (λ r. rw (eqb-true c DEADLINE r)) (λ q₅.
+    split (eqb c WANT-TAG) (λ r. rw (eqb-true c WANT-TAG r)) (λ q₆.
+    split (eqb c WANT-CLASS) (λ r. rw (eqb-true c WANT-CLASS r)) (λ q₇.
+    split (eqb c WANT-SENDER) (λ r. rw (eqb-true c WANT-SENDER r)) (λ q₈. simp (q₁, q₂, q₃, q₄, q₅, q₆, q₇, q₈))))))))))
 
 -- the message in the mailbox of slot a, which is not stirred yet
 abbrev pub joined : Caps → State → ℕ → ℕ → ℕ → List ℕ → State
@@ -329,7 +311,7 @@ post-keeps k s a g there sender head payload roomy fine =
     let l = alive-below (s STATE) a there in
     split (hears s a sender head)
     (λ q. rw (post-heard k s a sender head payload q)
-    (joined-keeps k (wake s a 1) a (wake-keeps k s a 1 g (omega (arith, g .sized .words 18 (lit< tt))) (hears-waits s a sender head q) (omega arith)) (wake-alive s a l) sender head payload roomy fine (wake-deaf s a sender head l)))
+    (joined-keeps k (wake s a 1) a (wake-keeps k s a 1 g (omega (arith, g .sized .words STATE (lit< tt))) (hears-waits s a sender head q) (omega arith)) (wake-alive s a l) sender head payload roomy fine (wake-deaf s a sender head l)))
     (λ q. rw (post-unheard k s a sender head payload q) (joined-keeps k s a g there sender head payload roomy fine q))
 
 -- ---- a mailbox entry leaves
@@ -345,7 +327,7 @@ module _ (k : Caps) (s : State) (g : Good k s) (j : ℕ) (jl : j < at s ARRIVED 
   -- it is in use
   pub mailOf-used : not (free (s MAIL-FREE) (mailOf s j)) ≡ true
   mailOf-used =
-      let t = length-take-le (at s ARRIVED 0) (s ARRIVAL) (omega (arith, g .head .1 .1, g .sized .words 30 (lit< tt))) in
+      let t = length-take-le (at s ARRIVED 0) (s ARRIVAL) (omega (arith, g .head .1 .1, g .sized .words ARRIVAL (lit< tt))) in
       flag-pos (not (free (s MAIL-FREE) (mailOf s j))) (omega (arith, g .arrived (mailOf s j) mailOf-below, occurs-pos (mailOf s j) (take (at s ARRIVED 0) (s ARRIVAL)) j (omega arith) (getD-take (at s ARRIVED 0) (s ARRIVAL) j 0 jl)))
 
   -- it names a data entry
@@ -358,7 +340,7 @@ module _ (k : Caps) (s : State) (g : Good k s) (j : ℕ) (jl : j < at s ARRIVED 
 
   -- it is free afterwards
   freed : free (released (s MAIL-FREE) (mailOf s j)) (mailOf s j) ≡ true
-  freed = released-same (s MAIL-FREE) (mailOf s j) (omega (arith, mailOf-below, g .range .fewMails, g .sized .words 16 (lit< tt)))
+  freed = released-same (s MAIL-FREE) (mailOf s j) (omega (arith, mailOf-below, g .range .fewMails, g .sized .words MAIL-FREE (lit< tt)))
 
   -- so an entry in use afterwards is another, and was in use
   pub still : (f : ℕ) → not (free (released (s MAIL-FREE) (mailOf s j)) f) ≡ true → (eqb f (mailOf s j) ≡ false) × (not (free (s MAIL-FREE) f) ≡ true)
@@ -368,12 +350,12 @@ module _ (k : Caps) (s : State) (g : Good k s) (j : ℕ) (jl : j < at s ARRIVED 
 
   -- the count of arrivals, one down
   one-less : getD (set (s ARRIVED) 0 (at s ARRIVED 0 - 1)) 0 0 ≡ at s ARRIVED 0 - 1
-  one-less = getD-set-same (s ARRIVED) 0 (at s ARRIVED 0 - 1) 0 (omega (arith, g .sized .words 9 (lit< tt)))
+  one-less = getD-set-same (s ARRIVED) 0 (at s ARRIVED 0 - 1) 0 (omega (arith, g .sized .words ARRIVED (lit< tt)))
 
-  -- the columns keep their sizes
-  pub delist-sized : Sized k (delist s j)
+  -- it writes five columns
+  pub delist-wrote : Wrote (ARRIVED ∷ ARRIVAL ∷ MAIL-DATA ∷ MAIL-OWNER ∷ MAIL-FREE ∷ []) s (delist s j)
   unfolding delist poke with-col freeBit
-  delist-sized = sized-pull k _ ARRIVAL ARRIVED j jl (omega (arith, g .head .1 .1, g .sized .words 30 (lit< tt))) (sized-poke k _ MAIL-DATA (mailOf s j) 0 (sized-poke k _ MAIL-OWNER (mailOf s j) 0 (sized-free k s MAIL-FREE (mailOf s j) (g .sized))))
+  delist-wrote = wrote-pull (wrote-poke (wrote-poke (wrote-free (wrote-none s) MAIL-FREE (mailOf s j)) MAIL-OWNER (mailOf s j) 0) MAIL-DATA (mailOf s j) 0) ARRIVAL ARRIVED j jl (omega (arith, g .head .1 .1, g .sized .words ARRIVAL (lit< tt)))
 
   -- the head is sound
   pub delist-head : Holds (headRule k (delist s j))
@@ -395,97 +377,71 @@ module _ (k : Caps) (s : State) (g : Good k s) (j : ℕ) (jl : j < at s ARRIVED 
   -- the arrivals
   pub delist-arrivals : (i : ℕ) → i < k .mails → Holds (arrivalRule k (delist s j) i)
   unfolding delist pull poke with-col freeBit
-  delist-arrivals = rw one-less (listed-leaves (k .mails) (at s ARRIVED 0) (s ARRIVAL) (g .head .1 .1) (g .sized .words 30 (lit< tt)) (g .arrivals) j jl)
+  delist-arrivals = rw one-less (listed-leaves (k .mails) (at s ARRIVED 0) (s ARRIVAL) (g .head .1 .1) (g .sized .words ARRIVAL (lit< tt)) (g .arrivals) j jl)
 
   -- each entry in use has arrived once
   pub delist-arrived : (e : ℕ) → e < k .mails → Holds (arrivedRule (delist s j) e)
   unfolding delist pull poke with-col freeBit
-  delist-arrived = rw one-less (once-leaves (k .mails) (at s ARRIVED 0) (s ARRIVAL) (g .head .1 .1) (g .sized .words 30 (lit< tt)) (g .arrivals) j jl
+  delist-arrived = rw one-less (once-leaves (k .mails) (at s ARRIVED 0) (s ARRIVAL) (g .head .1 .1) (g .sized .words ARRIVAL (lit< tt)) (g .arrivals) j jl
       (λ f. not (free (s MAIL-FREE) f)) (λ f. not (free (released (s MAIL-FREE) (mailOf s j)) f)) (rw freed) (λ f n. rw (released-other (s MAIL-FREE) (mailOf s j) f n)) (g .arrived))
 
   -- ---- it goes to the empty hand of a live slot
   module _ (a : ℕ) (there : alive (s STATE) a ≡ true) (empty : at s HAND a ≡ 0) where
     -- the slot is one of the slots
     slot : a < k .actors
-    slot = omega (arith, alive-below (s STATE) a there, g .sized .words 18 (lit< tt))
+    slot = omega (arith, alive-below (s STATE) a there, g .sized .words STATE (lit< tt))
 
     -- its hand names the data entry
     hand-is : getD (set (s HAND) a (suc (dataOf s j))) a 0 ≡ suc (dataOf s j)
-    hand-is = getD-set-same (s HAND) a (suc (dataOf s j)) 0 (omega (arith, slot, g .sized .words 22 (lit< tt)))
+    hand-is = getD-set-same (s HAND) a (suc (dataOf s j)) 0 (omega (arith, slot, g .sized .words HAND (lit< tt)))
 
     -- sound as before
     pub handOver-good : Good k (handOver s a j)
     unfolding handOver delist pull poke with-col freeBit pairRule
-    handOver-good = record {
-      range = g .range;
-      sized = sized-poke k _ HAND a (suc (dataOf s j)) delist-sized;
-      caps = g .caps;
-      head = delist-head;
-      spare = spare-same s (handOver s a j) (refl, refl, refl, refl, refl, refl) (g .spare);
-      mailBits = delist-bits;
-      dataBits = g .dataBits;
-      actors = λ b m. (
-        g .actors b m .0,
-        (
-          g .actors b m .1 .0,
-          each-set (λ b. b < k .actors → getD (set (s HAND) a (suc (dataOf s j))) b 0 ≤ k .datas) a b (λ m. rw hand-is (omega (arith, dataOf-below))) (λ r m. rw (other (s HAND) a (suc (dataOf s j)) b r) (g .actors b m .1 .1)) m,
-        ),
-      );
-      idle = λ b m. (λ u. (g .idle b m .0 u .0, rw (other (s HAND) a (suc (dataOf s j)) b (ne-eqb b a (λ e. of-alive (s STATE) a there (rw e at u)))) (g .idle b m .0 u .1)), g .idle b m .1);
-      waits = g .waits;
-      runs = g .runs;
-      queue = g .queue;
-      once = g .once;
-      mails = delist-mails;
-      arrivals = delist-arrivals;
-      arrived = delist-arrived;
-      filters = λ f m u.
-          let r = still f (u .0) in
-          rw (other (s MAIL-OWNER) (mailOf s j) 0 f (r .0), other (s MAIL-DATA) (mailOf s j) 0 f (r .0)) (g .filters f m (r .1, rw (other (s MAIL-OWNER) (mailOf s j) 0 f (r .0)) at (u .1)));
-      datas = g .datas;
-      held = held-pass (k .datas) (s MAIL-DATA) (s HAND) (s DATA-FREE) (g .held) (dataOf s j) dataOf-below (mailOf s j) a (omega (arith, mailOf-below, g .sized .words 29 (lit< tt))) dataOf-is (omega (arith, slot, g .sized .words 22 (lit< tt))) empty;
-      links = g .links;
-      pairs = g .pairs;
-      monitors = g .monitors;
-      timers = g .timers;
-    }
+    handOver-good =
+        patch k g (wrote-poke delist-wrote HAND a (suc (dataOf s j))) (
+        Part.head by (delist-head) also
+        Part.mailBits by (delist-bits) also
+        Part.actors by (λ b m. (
+          g .actors b m .0,
+          (
+            g .actors b m .1 .0,
+            each-set (λ b. b < k .actors → getD (set (s HAND) a (suc (dataOf s j))) b 0 ≤ k .datas) a b (λ m. rw hand-is (omega (arith, dataOf-below))) (λ r m. rw (other (s HAND) a (suc (dataOf s j)) b r) (g .actors b m .1 .1)) m,
+          ),
+        )) also
+        Part.idle by (λ b m. (λ u. (g .idle b m .0 u .0, rw (other (s HAND) a (suc (dataOf s j)) b (ne-eqb b a (λ e. of-alive (s STATE) a there (rw e at u)))) (g .idle b m .0 u .1)), g .idle b m .1)) also
+        Part.mails by (delist-mails) also
+        Part.arrivals by (delist-arrivals) also
+        Part.arrived by (delist-arrived) also
+        Part.filters by (λ f m u.
+        let r = still f (u .0) in
+        rw (other (s MAIL-OWNER) (mailOf s j) 0 f (r .0), other (s MAIL-DATA) (mailOf s j) 0 f (r .0)) (g .filters f m (r .1, rw (other (s MAIL-OWNER) (mailOf s j) 0 f (r .0)) at (u .1)))) also
+        Part.held by (held-pass (k .datas) (s MAIL-DATA) (s HAND) (s DATA-FREE) (g .held) (dataOf s j) dataOf-below (mailOf s j) a (omega (arith, mailOf-below, g .sized .words MAIL-DATA (lit< tt))) dataOf-is (omega (arith, slot, g .sized .words HAND (lit< tt))) empty) also
+        done) refl
 
   -- ---- its data entry is freed with it
   module _ (q : List ℕ) (w : Wiped (s PAYLOAD) q (dataOf s j)) where
     -- sound as before
     pub drop-good : Good k (unfilled (delist s j) (dataOf s j) q)
     unfolding delist pull poke with-col freeBit pairRule
-    drop-good = record {
-      range = g .range;
-      sized = unfilled-sized k (delist s j) (dataOf s j) q w delist-sized dataOf-below;
-      caps = g .caps;
-      head = delist-head;
-      spare = spare-same s (unfilled (delist s j) (dataOf s j) q) (refl, refl, refl, refl, refl, refl) (g .spare);
-      mailBits = delist-bits;
-      dataBits = bits-free (k .datas) (s DATA-FREE) (dataOf s j) dataOf-below (g .dataBits);
-      actors = g .actors;
-      idle = g .idle;
-      waits = g .waits;
-      runs = g .runs;
-      queue = g .queue;
-      once = g .once;
-      mails = delist-mails;
-      arrivals = delist-arrivals;
-      arrived = delist-arrived;
-      filters = λ f m u.
-          let r = still f (u .0) in
-          let v = g .mails f m .1 (r .1) .1 in
-          let c : eqb (at s MAIL-DATA f - 1) (dataOf s j) ≡ false = ne-eqb (at s MAIL-DATA f - 1) (dataOf s j) (λ e. eqb-false f (mailOf s j) (r .0)
-          (held-once (k .datas) (s MAIL-DATA) (s HAND) (s DATA-FREE) (g .held) (dataOf s j) dataOf-below f (mailOf s j) (omega (arith, g .sized .words 29 (lit< tt))) (omega (arith, mailOf-below, g .sized .words 29 (lit< tt))) (omega arith) dataOf-is)) in
-          rw (other (s MAIL-OWNER) (mailOf s j) 0 f (r .0), other (s MAIL-DATA) (mailOf s j) 0 f (r .0), other (s SENDER) (dataOf s j) 0 (at s MAIL-DATA f - 1) c, header-same (s PAYLOAD) q (at s MAIL-DATA f - 1) (w .apart (at s MAIL-DATA f - 1) c))
-          (g .filters f m (r .1, rw (other (s MAIL-OWNER) (mailOf s j) 0 f (r .0)) at (u .1)));
-      datas = unfilled-datas k (delist s j) (dataOf s j) q w delist-sized dataOf-below (g .range .fewDatas) (g .datas);
-      held = held-drop (k .datas) (s MAIL-DATA) (s HAND) (s DATA-FREE) (g .held) (dataOf s j) dataOf-below (mailOf s j) (omega (arith, mailOf-below, g .sized .words 29 (lit< tt))) dataOf-is (omega (arith, dataOf-below, g .range .fewDatas, g .sized .words 17 (lit< tt)));
-      links = g .links;
-      pairs = g .pairs;
-      monitors = g .monitors;
-      timers = g .timers;
-    }
+    drop-good =
+        patch k g (wrote-unfilled delist-wrote (dataOf s j) q (w .long)) (
+        Part.head by (delist-head) also
+        Part.mailBits by (delist-bits) also
+        Part.dataBits by (bits-free (k .datas) (s DATA-FREE) (dataOf s j) dataOf-below (g .dataBits)) also
+        Part.mails by (delist-mails) also
+        Part.arrivals by (delist-arrivals) also
+        Part.arrived by (delist-arrived) also
+        Part.filters by (λ f m u.
+        let r = still f (u .0) in
+        let v = g .mails f m .1 (r .1) .1 in
+        let c : eqb (at s MAIL-DATA f - 1) (dataOf s j) ≡ false = ne-eqb (at s MAIL-DATA f - 1) (dataOf s j) (λ e. eqb-false f (mailOf s j) (r .0)
+        (held-once (k .datas) (s MAIL-DATA) (s HAND) (s DATA-FREE) (g .held) (dataOf s j) dataOf-below f (mailOf s j) (omega (arith, g .sized .words MAIL-DATA (lit< tt))) (omega (arith, mailOf-below, g .sized .words MAIL-DATA (lit< tt))) (omega arith) dataOf-is)) in
+        rw (other (s MAIL-OWNER) (mailOf s j) 0 f (r .0), other (s MAIL-DATA) (mailOf s j) 0 f (r .0), other (s SENDER) (dataOf s j) 0 (at s MAIL-DATA f - 1) c, header-same (s PAYLOAD) q (at s MAIL-DATA f - 1) (w .apart (at s MAIL-DATA f - 1) c))
+        (g .filters f m (r .1, rw (other (s MAIL-OWNER) (mailOf s j) 0 f (r .0)) at (u .1)))) also
+        Part.datas by (unfilled-datas k (delist s j) (dataOf s j) q w (wrote-sized k delist-wrote (g .sized)) dataOf-below (g .range .fewDatas) (g .datas)) also
+        Part.held by (held-drop (k .datas) (s MAIL-DATA) (s HAND) (s DATA-FREE) (g .held) (dataOf s j) dataOf-below (mailOf s j) (omega (arith, mailOf-below, g .sized .words MAIL-DATA (lit< tt))) dataOf-is (omega (arith, dataOf-below, g .range .fewDatas, g .sized .words DATA-FREE (lit< tt)))) also
+        done) refl
 
 -- THE THEOREM of a message that goes to an empty hand
 pub handOver-keeps : (k : Caps) (s : State) (a j : ℕ) → Good k s → alive (s STATE) a ≡ true → at s HAND a ≡ 0 → j < at s ARRIVED 0 → Good k (handOver s a j)
@@ -521,7 +477,7 @@ dropAll-keeps (suc m) k s a g = dropAll-keeps m k (dropFirst s a) a (dropFirst-k
 pub owned-arrived : (k : Caps) (s : State) → Good k s → (e : ℕ) → e < k .mails → (at s MAIL-OWNER e ≡ 0 → ⊥) → (i : ℕ) × (i < at s ARRIVED 0) × (at s ARRIVAL i ≡ e)
 owned-arrived k s g e m n =
     let u : free (s MAIL-FREE) e ≡ false = split (free (s MAIL-FREE) e) (λ q. absurd (n (g .mails e m .0 q .0))) (λ q. q) in
-    let t = length-take-le (at s ARRIVED 0) (s ARRIVAL) (omega (arith, g .head .1 .1, g .sized .words 30 (lit< tt))) in
+    let t = length-take-le (at s ARRIVED 0) (s ARRIVAL) (omega (arith, g .head .1 .1, g .sized .words ARRIVAL (lit< tt))) in
     let p = occurs-place e (take (at s ARRIVED 0) (s ARRIVAL)) (rw (g .arrived e m, u) (omega arith)) in
     let l : p .0 < at s ARRIVED 0 = omega (arith, p .1) in
     (p .0, l, sym (getD-take (at s ARRIVED 0) (s ARRIVAL) (p .0) 0 l) ∙ p .2)
@@ -533,7 +489,7 @@ unfolding delist pull poke with-col freeBit
 drop-one k s a q g l =
     let e = at s ARRIVAL (firstOf s a) in
     let o : at s MAIL-OWNER e ≡ suc a = eqb-true (at s MAIL-OWNER e) (suc a) (lowest-at (λ i. eqb (at s MAIL-OWNER (at s ARRIVAL i)) (suc a)) (at s ARRIVED 0) l) in
-    let t = occurs-set (suc a) (s MAIL-OWNER) e 0 (omega (arith, mailOf-below k s g (firstOf s a) l, g .sized .words 28 (lit< tt))) in
+    let t = occurs-set (suc a) (s MAIL-OWNER) e 0 (omega (arith, mailOf-below k s g (firstOf s a) l, g .sized .words MAIL-OWNER (lit< tt))) in
     omega (arith, rw (eq-eqb (at s MAIL-OWNER e) (suc a) o, ne-eqb 0 (suc a) (λ z. omega arith)) at t)
 
 -- where there is none to drop no entry is the slot's
@@ -542,7 +498,7 @@ drop-none k s a g q =
     elim (decLt 0 (occurs (suc a) (s MAIL-OWNER))) [
       | yes h ↦
           let p = occurs-place (suc a) (s MAIL-OWNER) h in
-          let r = owned-arrived k s g (p .0) (omega (arith, p .1, g .sized .words 28 (lit< tt))) (λ z. omega (arith, p .2)) in
+          let r = owned-arrived k s g (p .0) (omega (arith, p .1, g .sized .words MAIL-OWNER (lit< tt))) (λ z. omega (arith, p .2)) in
           true-false (eqb (at s MAIL-OWNER (at s ARRIVAL (r .0))) (suc a)) (rw (r .2) (eq-eqb (at s MAIL-OWNER (p .0)) (suc a) (p .2)))
           (lowest-first (λ i. eqb (at s MAIL-OWNER (at s ARRIVAL i)) (suc a)) (at s ARRIVED 0) (r .0) (omega (arith, r .1, ltb-false (firstOf s a) (at s ARRIVED 0) q)))
       | no h ↦ omega arith
@@ -565,7 +521,7 @@ dropAll-less (suc m) k s a g = dropAll-less m k (dropFirst s a) a (dropFirst-kee
 module _ (k : Caps) (s : State) (g : Good k s) where
   -- exactly
   pub boxes-exact : Exact (arrivals s) (usedMail k s)
-  boxes-exact = listed-exact (k .mails) (at s ARRIVED 0) (s ARRIVAL) (g .head .1 .1) (g .sized .words 30 (lit< tt)) (g .arrivals) (λ e. not (free (s MAIL-FREE) e)) (g .arrived)
+  boxes-exact = listed-exact (k .mails) (at s ARRIVED 0) (s ARRIVAL) (g .head .1 .1) (g .sized .words ARRIVAL (lit< tt)) (g .arrivals) (λ e. not (free (s MAIL-FREE) e)) (g .arrived)
 
   -- a column of which just the entries in use hold a number
   module _ (col : List ℕ) (long : length col ≡ k .mails) (rest : (e : ℕ) → e < k .mails → free (s MAIL-FREE) e ≡ true → getD col e 0 ≡ 0)
@@ -581,8 +537,8 @@ module _ (k : Caps) (s : State) (g : Good k s) where
   -- there are no more arrivals of a slot than arrivals
   pub owned-few : (a : ℕ) → occurs (suc a) (s MAIL-OWNER) ≤ at s ARRIVED 0
   owned-few a =
-      let t = length-take-le (at s ARRIVED 0) (s ARRIVAL) (omega (arith, g .head .1 .1, g .sized .words 30 (lit< tt))) in
-      let c = mail-column (s MAIL-OWNER) (g .sized .words 28 (lit< tt)) (λ e l q. g .mails e l .0 q .0) (λ e l q. g .mails e l .1 q .0 .0) a in
+      let t = length-take-le (at s ARRIVED 0) (s ARRIVAL) (omega (arith, g .head .1 .1, g .sized .words ARRIVAL (lit< tt))) in
+      let c = mail-column (s MAIL-OWNER) (g .sized .words MAIL-OWNER (lit< tt)) (λ e l q. g .mails e l .0 q .0) (λ e l q. g .mails e l .1 q .0 .0) a in
       omega (arith, t, c, occurs-length a (map (λ e. at s MAIL-OWNER e - 1) (arrivals s)), length-map (arrivals s) (λ e. at s MAIL-OWNER e - 1))
 
 -- THE THEOREM of a mailbox that is freed: after as many drops as there are arrivals no mailbox entry is the slot's
@@ -592,51 +548,12 @@ dropAll-empties k s a g e q =
     let l : e < length (t MAIL-OWNER) = elim (decLt e (length (t MAIL-OWNER))) [ yes l ↦ l | no n ↦ absurd (omega (arith, List·getD-eq-default (t MAIL-OWNER) 0 {n = e} (omega arith))) ] in
     omega (arith, dropAll-less (at s ARRIVED 0) k s a g, owned-few k s g a, occurs-pos (suc a) (t MAIL-OWNER) e l q)
 
--- ---- the columns that the messages do not write
--- neither free bits, hands, mailbox entries, arrivals nor data entries
-abbrev pub Elsewhere : ℕ → Type 0
-Elsewhere c =
-    (eqb c ARRIVED ≡ false) × (eqb c MAIL-FREE ≡ false) × (eqb c DATA-FREE ≡ false) × (eqb c MAIL-OWNER ≡ false) × (eqb c MAIL-DATA ≡ false)
-    × (eqb c ARRIVAL ≡ false) × (eqb c SENDER ≡ false) × (eqb c LENGTH ≡ false) × (eqb c PAYLOAD ≡ false)
-
--- are as they were once a data entry is freed
-pub unfilled-else : (s : State) (d : ℕ) (q : List ℕ) (c : ℕ) → Elsewhere c → unfilled s d q c ≡ s c
-unfolding poke with-col freeBit
-unfilled-else s d q c e = simp (e .8, e .7, e .6, e .2)
-
--- once a mailbox entry left
-pub delist-else : (s : State) (j c : ℕ) → Elsewhere c → delist s j c ≡ s c
-unfolding delist pull poke with-col freeBit
-delist-else s j c e = simp (e .0, e .5, e .4, e .3, e .1)
-
--- once a hand let go
-pub letGo-else : (s : State) (a c : ℕ) → Elsewhere c → eqb c HAND ≡ false → letGo s a c ≡ s c
-unfolding letGo
-letGo-else s a c e h = split (eqb (at s HAND a) 0) (λ q. rw q) (λ q. rw (q, unfill-is s (at s HAND a - 1)) (else (at s HAND a - 1) (wipe (s PAYLOAD) (at s HAND a - 1))))
-  where
-    -- the state with one word of it freed
-    else : (d : ℕ) (q : List ℕ) → poke (unfilled s d q) HAND a 0 c ≡ s c
-    else d q = poke-other (unfilled s d q) HAND a 0 c h ∙ unfilled-else s d q c e
-
--- and the hand is empty
+-- ---- a hand that let go is empty
 pub letGo-empty : (k : Caps) (s : State) (a : ℕ) → Good k s → a < k .actors → at (letGo s a) HAND a ≡ 0
 unfolding letGo
 letGo-empty k s a g l =
     split (eqb (at s HAND a) 0) (λ q. rw q (eqb-true (at s HAND a) 0 q))
     (λ q. rw q (rw (poke-same (unfill s (at s HAND a - 1)) HAND a 0) (set-zero (unfill s (at s HAND a - 1) HAND) a)))
-
--- once messages were dropped
-pub dropFirst-else : (s : State) (a c : ℕ) → Elsewhere c → dropFirst s a c ≡ s c
-dropFirst-else s a c e =
-    split (ltb (firstOf s a) (at s ARRIVED 0))
-    (λ q. rw (dropFirst-is s a q) (unfilled-else (delist s (firstOf s a)) (dataOf s (firstOf s a)) (wipe (s PAYLOAD) (dataOf s (firstOf s a))) c e ∙ delist-else s (firstOf s a) c e))
-    (λ q. rw (dropFirst-none s a q))
-
--- m drops
-pub dropAll-else : (m : ℕ) (s : State) (a c : ℕ) → Elsewhere c → dropAll m s a c ≡ s c
-unfolding dropAll
-dropAll-else zero s a c e = refl
-dropAll-else (suc m) s a c e = dropAll-else m (dropFirst s a) a c e ∙ dropFirst-else s a c e
 
 -- ---- waiting
 -- what a legal filter is
@@ -673,54 +590,38 @@ module _ (k : Caps) (s : State) (g : Good k s) (a : ℕ) (runs : runner s ≡ su
   unfolding await poke with-col pairRule
   await-keeps =
       let w : alive (set (s STATE) a WAITS) ≡ alive (s STATE) = alive-same (s STATE) a WAITS (λ e. omega (arith, state-runs)) (λ e. omega arith) in
-      let is : getD (set (s STATE) a WAITS) a 0 ≡ WAITS = getD-set-same (s STATE) a WAITS 0 (omega (arith, slot-runs, g .sized .words 18 (lit< tt))) in
-      let e₁ : getD (set (s WANT-SENDER) a sender) a 0 ≡ sender = getD-set-same (s WANT-SENDER) a sender 0 (omega (arith, slot-runs, g .sized .words 23 (lit< tt))) in
-      let e₂ : getD (set (s WANT-CLASS) a class) a 0 ≡ class = getD-set-same (s WANT-CLASS) a class 0 (omega (arith, slot-runs, g .sized .words 24 (lit< tt))) in
-      let e₃ : getD (set (s WANT-TAG) a tag) a 0 ≡ tag = getD-set-same (s WANT-TAG) a tag 0 (omega (arith, slot-runs, g .sized .words 25 (lit< tt))) in
-      let e₄ : getD (set (s DEADLINE) a deadline) a 0 ≡ deadline = getD-set-same (s DEADLINE) a deadline 0 (omega (arith, slot-runs, g .sized .words 26 (lit< tt))) in
+      let is : getD (set (s STATE) a WAITS) a 0 ≡ WAITS = getD-set-same (s STATE) a WAITS 0 (omega (arith, slot-runs, g .sized .words STATE (lit< tt))) in
+      let e₁ : getD (set (s WANT-SENDER) a sender) a 0 ≡ sender = getD-set-same (s WANT-SENDER) a sender 0 (omega (arith, slot-runs, g .sized .words WANT-SENDER (lit< tt))) in
+      let e₂ : getD (set (s WANT-CLASS) a class) a 0 ≡ class = getD-set-same (s WANT-CLASS) a class 0 (omega (arith, slot-runs, g .sized .words WANT-CLASS (lit< tt))) in
+      let e₃ : getD (set (s WANT-TAG) a tag) a 0 ≡ tag = getD-set-same (s WANT-TAG) a tag 0 (omega (arith, slot-runs, g .sized .words WANT-TAG (lit< tt))) in
+      let e₄ : getD (set (s DEADLINE) a deadline) a 0 ≡ deadline = getD-set-same (s DEADLINE) a deadline 0 (omega (arith, slot-runs, g .sized .words DEADLINE (lit< tt))) in
       let z : getD (set (s RUNNING) 0 0) 0 0 ≡ 0 = set-zero (s RUNNING) 0 in
       let p = legal-of sender class tag right in
-      record {
-        range = g .range;
-        sized = sized-poke k _ DEADLINE a deadline (sized-poke k _ WANT-TAG a tag (sized-poke k _ WANT-CLASS a class (sized-poke k _ WANT-SENDER a sender (sized-poke k _ STATE a WAITS (sized-poke k s RUNNING 0 0 (g .sized))))));
-        caps = g .caps;
-        head = rw z ((g .head .0 .0, omega arith), g .head .1);
-        spare = spare-same s (await s a sender class tag deadline) (refl, refl, refl, refl, refl, refl) (g .spare);
-        mailBits = g .mailBits;
-        dataBits = g .dataBits;
-        actors = λ b h. each-set (λ b. Holds (actorRule k (await s a sender class tag deadline) b)) a b
-            (let c = g .actors a slot-runs in rw is ((omega arith, c .0 .1), ((c .1 .0 .0, λ e. absurd (omega (arith, state-runs, c .1 .0 .1 e))), c .1 .1)))
-            (λ q. rw (other (s STATE) a WAITS b q) (g .actors b h));
-        idle = λ b h. each-set (λ b. Holds (idleRule (await s a sender class tag deadline) b)) a b
-            (rw is (λ e. absurd (omega arith), (λ e. g .idle a slot-runs .1 .0 (λ r. omega (arith, state-runs)), λ e. absurd (e refl))))
-            (λ q. rw (other (s STATE) a WAITS b q, other (s WANT-SENDER) a sender b q, other (s WANT-CLASS) a class b q, other (s WANT-TAG) a tag b q, other (s DEADLINE) a deadline b q) (g .idle b h));
-        waits = λ b h. each-set (λ b. Holds (waitRule (await s a sender class tag deadline) b)) a b
-            (rw (e₁, e₂, e₃, e₄) ((p .0, p .1), ((p .2, p .3), later)))
-            (λ q. rw (other (s WANT-SENDER) a sender b q, other (s WANT-CLASS) a class b q, other (s WANT-TAG) a tag b q, other (s DEADLINE) a deadline b q) (g .waits b h));
-        runs = λ b h. rw z (each-set (λ b. b < k .actors → boolByte (eqb (getD (set (s STATE) a WAITS) b 0) RUNS) ≡ boolByte (eqb 0 (suc b))) a b
-            (λ h. rw (is, ne-eqb 0 (suc a) (λ e. omega arith)))
-            (λ q h. rw (other (s STATE) a WAITS b q, ne-eqb 0 (suc b) (λ e. omega arith)) (rw (ne-eqb (runner s) (suc b) (λ e. eqb-false b a q (omega (arith, runs)))) at (g .runs b h))) h);
-        queue = g .queue;
-        once = λ b h. each-set (λ b. b < k .actors → Holds (onceRule (await s a sender class tag deadline) b)) a b
-            (λ h. rw is (rw state-runs at (g .once a h)))
-            (λ q h. rw (other (s STATE) a WAITS b q) (g .once b h)) h;
-        mails = rw w (g .mails);
-        arrivals = g .arrivals;
-        arrived = g .arrived;
-        filters = λ f m u. split (eqb (at s MAIL-OWNER f - 1) a)
-            (λ q. let o : at s MAIL-OWNER f ≡ suc a = omega (arith, g .mails f m .1 (u .0) .0 .0, eqb-true (at s MAIL-OWNER f - 1) a q) in
-            let r = owned-arrived k s g f m (λ x. omega (arith, o)) in
-            let v = rw (r .2, eq-eqb (at s MAIL-OWNER f) (suc a) o) at (unmet (r .0) (r .1)) in
-            rw (eqb-true (at s MAIL-OWNER f - 1) a q, e₁, e₂, e₃) (rw v))
-            (λ q. rw (other (s WANT-SENDER) a sender (at s MAIL-OWNER f - 1) q, other (s WANT-CLASS) a class (at s MAIL-OWNER f - 1) q, other (s WANT-TAG) a tag (at s MAIL-OWNER f - 1) q)
-            (g .filters f m (u .0, rw (other (s STATE) a WAITS (at s MAIL-OWNER f - 1) q) at (u .1))));
-        datas = g .datas;
-        held = g .held;
-        links = rw w (g .links);
-        pairs = g .pairs;
-        monitors = rw w (g .monitors);
-        timers = rw w (g .timers);
-      }
+      patch-living k g (wrote-await (wrote-none s) a sender class tag deadline) (
+      Part.head by (rw z ((g .head .0 .0, omega arith), g .head .1)) also
+      Part.actors by (λ b h. each-set (λ b. Holds (actorRule k (await s a sender class tag deadline) b)) a b
+      (let c = g .actors a slot-runs in rw is ((omega arith, c .0 .1), ((c .1 .0 .0, λ e. absurd (omega (arith, state-runs, c .1 .0 .1 e))), c .1 .1)))
+      (λ q. rw (other (s STATE) a WAITS b q) (g .actors b h))) also
+      Part.idle by (λ b h. each-set (λ b. Holds (idleRule (await s a sender class tag deadline) b)) a b
+      (rw is (λ e. absurd (omega arith), (λ e. g .idle a slot-runs .1 .0 (λ r. omega (arith, state-runs)), λ e. absurd (e refl))))
+      (λ q. rw (other (s STATE) a WAITS b q, other (s WANT-SENDER) a sender b q, other (s WANT-CLASS) a class b q, other (s WANT-TAG) a tag b q, other (s DEADLINE) a deadline b q) (g .idle b h))) also
+      Part.waits by (λ b h. each-set (λ b. Holds (waitRule (await s a sender class tag deadline) b)) a b
+      (rw (e₁, e₂, e₃, e₄) ((p .0, p .1), ((p .2, p .3), later)))
+      (λ q. rw (other (s WANT-SENDER) a sender b q, other (s WANT-CLASS) a class b q, other (s WANT-TAG) a tag b q, other (s DEADLINE) a deadline b q) (g .waits b h))) also
+      Part.runs by (λ b h. rw z (each-set (λ b. b < k .actors → boolByte (eqb (getD (set (s STATE) a WAITS) b 0) RUNS) ≡ boolByte (eqb 0 (suc b))) a b
+      (λ h. rw (is, ne-eqb 0 (suc a) (λ e. omega arith)))
+      (λ q h. rw (other (s STATE) a WAITS b q, ne-eqb 0 (suc b) (λ e. omega arith)) (rw (ne-eqb (runner s) (suc b) (λ e. eqb-false b a q (omega (arith, runs)))) at (g .runs b h))) h)) also
+      Part.once by (λ b h. each-set (λ b. b < k .actors → Holds (onceRule (await s a sender class tag deadline) b)) a b
+      (λ h. rw is (rw state-runs at (g .once a h)))
+      (λ q h. rw (other (s STATE) a WAITS b q) (g .once b h)) h) also
+      Part.filters by (λ f m u. split (eqb (at s MAIL-OWNER f - 1) a)
+      (λ q. let o : at s MAIL-OWNER f ≡ suc a = omega (arith, g .mails f m .1 (u .0) .0 .0, eqb-true (at s MAIL-OWNER f - 1) a q) in
+      let r = owned-arrived k s g f m (λ x. omega (arith, o)) in
+      let v = rw (r .2, eq-eqb (at s MAIL-OWNER f) (suc a) o) at (unmet (r .0) (r .1)) in
+      rw (eqb-true (at s MAIL-OWNER f - 1) a q, e₁, e₂, e₃) (rw v))
+      (λ q. rw (other (s WANT-SENDER) a sender (at s MAIL-OWNER f - 1) q, other (s WANT-CLASS) a class (at s MAIL-OWNER f - 1) q, other (s WANT-TAG) a tag (at s MAIL-OWNER f - 1) q)
+      (g .filters f m (u .0, rw (other (s STATE) a WAITS (at s MAIL-OWNER f - 1) q) at (u .1))))) also
+      done) w refl
 
 -- ---- receive
 -- once the hand of the running actor is empty
@@ -737,18 +638,14 @@ receiveBare-keeps sender class tag wait k s a g runs empty right fair =
     (λ i l. lowest-first (matchAt s a sender class tag) (head s ARRIVED) i (omega (arith, ltb-false j (head s ARRIVED) q))))))
 
 -- THE THEOREM of receive
-pub receive-keeps : (sender class tag : ℕ) (wait : ℤ) (k : Caps) (s : State) → Good k s → Good k (receiveRule sender class tag wait k s .state)
-unfolding receiveRule
-receive-keeps sender class tag wait k s g =
+pub receive-keeps : (sender class tag : ℕ) (wait : ℤ) → Keeps (receive sender class tag wait)
+receive-keeps sender class tag wait k s g p =
     let a = runner s - 1 in
-    split (eqb (runner s) 0) (λ q. rw q g)
-    (λ q. let n = eqb-false (runner s) 0 q in
+    let q = eqb-false (runner s) 0 (p .0) in
     let l : a < k .actors = omega (arith, g .head .0 .1) in
-    split (legal sender class tag)
-    (λ r. split (badWait wait) (λ b. rw (q, r, b) g)
-    (λ b. rw (q, r, b) (receiveBare-keeps sender class tag wait k (letGo s a) a (letGo-keeps k s a g l)
-    (ap (λ (l : List ℕ). getD l 0 0) (letGo-else s a RUNNING (refl, refl, refl, refl, refl, refl, refl, refl, refl) refl) ∙ omega arith) (letGo-empty k s a g l) r b)))
-    (λ r. rw (q, r) g))
+    let n = neither (not (legal sender class tag)) (badWait wait) (p .1 .0) in
+    receiveBare-keeps sender class tag wait k (letGo s a) a (letGo-keeps k s a g l)
+    (ap (λ (l : List ℕ). getD l 0 0) (wrote-letGo s a .cols RUNNING refl) ∙ omega arith) (letGo-empty k s a g l) (held (legal sender class tag) (n .0)) (n .1)
 
 -- ---- notify
 -- the id of a live actor is a legal sender
@@ -772,54 +669,30 @@ notify-fine k s a tag payload g there t l =
     }
 
 -- THE THEOREM of notify
-pub notify-keeps : (target tag : ℕ) (payload : List ℕ) (k : Caps) (s : State) → Good k s → Good k (notifyRule target tag payload k s .state)
-unfolding notifyRule
-notify-keeps target tag payload k s g =
-    split (eqb (runner s) 0) (λ q. rw q g)
-    (λ q. split (leb ANY-TAG tag) (λ r. rw (q, r) g)
-    (λ r. split (ltb PAYLOAD-MOST (length payload)) (λ b. rw (q, r, b) g)
-    (λ b. split (isActor s target)
-    (λ c. split (hasRoom k s)
-    (λ d. rw (q, r, b, c, d) (post-keeps k s (slotOf 64 target) g (alive-of (s STATE) (slotOf 64 target) (of-live 64 (s STATE) (s AGE) target c .0)) (runnerId s) (packed 0 0 tag) payload d
-    (notify-fine k s (runner s - 1) tag payload g (runner-alive k s g q) (leb-false ANY-TAG tag r) (ltb-false PAYLOAD-MOST (length payload) b))))
-    (λ d. rw (q, r, b, c, d) g))
-    (λ c. rw (q, r, b, c) g))))
+pub notify-keeps : (target tag : ℕ) (payload : List ℕ) → Keeps (notify target tag payload)
+notify-keeps target tag payload k s g p =
+    let bad = leb ANY-TAG tag in
+    let long = ltb PAYLOAD-MOST (length payload) in
+    post-keeps k s (slotOf 64 target) g (alive-of (s STATE) (slotOf 64 target) (of-live 64 (s STATE) (s AGE) target (held (isActor s target) (p .1 .1 .0)) .0)) (runnerId s) (packed 0 0 tag) payload (held (hasRoom k s) (p .1 .1 .1 .0))
+    (notify-fine k s (runner s - 1) tag payload g (runner-alive k s g (p .0)) (leb-false ANY-TAG tag (neither bad long (p .1 .0) .0)) (ltb-false PAYLOAD-MOST (length payload) (neither bad long (p .1 .0) .1)))
 
 -- ---- what a message leaves as it was
--- the columns that a waking does not write
-abbrev pub Unwoken : ℕ → Type 0
-Unwoken c =
-    (eqb c QUEUED ≡ false) × (eqb c STATE ≡ false) × (eqb c REASON ≡ false) × (eqb c WANT-SENDER ≡ false) × (eqb c WANT-CLASS ≡ false)
-    × (eqb c WANT-TAG ≡ false) × (eqb c DEADLINE ≡ false) × (eqb c QUEUE ≡ false)
-
--- once an actor was woken
-pub wake-else : (s : State) (a reason c : ℕ) → Unwoken c → wake s a reason c ≡ s c
-unfolding ready unwait push poke with-col
-wake-else s a reason c e = simp (e .0, e .7, e .2, e .1, e .6, e .5, e .4, e .3)
-
 -- the states once an actor was woken
 wake-state : (s : State) (a : ℕ) → wake s a 1 STATE ≡ set (s STATE) a RUNNABLE
 unfolding ready unwait push poke with-col
 wake-state s a = refl
 
--- once a message joined a mailbox
-pub joined-else : (k : Caps) (s : State) (a sender head : ℕ) (payload : List ℕ) (c : ℕ) → Elsewhere c → joined k s a sender head payload c ≡ s c
+-- and once a message joined a mailbox
+joined-state : (k : Caps) (s : State) (a sender head : ℕ) (payload : List ℕ) → joined k s a sender head payload STATE ≡ s STATE
 unfolding enlist push poke with-col takeBit
-joined-else k s a sender head payload c x = simp (x .0, x .5, x .4, x .3, x .1, x .8, x .7, x .6, x .2)
-
--- once a message was sent
-pub post-else : (k : Caps) (s : State) (a sender head : ℕ) (payload : List ℕ) (c : ℕ) → Elsewhere c → Unwoken c → post k s a sender head payload c ≡ s c
-post-else k s a sender head payload c x u =
-    split (hears s a sender head)
-    (λ q. rw (post-heard k s a sender head payload q) (joined-else k (wake s a 1) a sender head payload c x ∙ wake-else s a 1 c u))
-    (λ q. rw (post-unheard k s a sender head payload q) (joined-else k s a sender head payload c x))
+joined-state k s a sender head payload = refl
 
 -- the same actors are alive
 pub post-alive : (k : Caps) (s : State) (a sender head : ℕ) (payload : List ℕ) → alive (post k s a sender head payload STATE) ≡ alive (s STATE)
 post-alive k s a sender head payload =
     split (hears s a sender head)
-    (λ q. rw (post-heard k s a sender head payload q) (ap alive (joined-else k (wake s a 1) a sender head payload STATE (refl, refl, refl, refl, refl, refl, refl, refl, refl)) ∙ woken q))
-    (λ q. rw (post-unheard k s a sender head payload q) (ap alive (joined-else k s a sender head payload STATE (refl, refl, refl, refl, refl, refl, refl, refl, refl))))
+    (λ q. rw (post-heard k s a sender head payload q) (ap alive (joined-state k (wake s a 1) a sender head payload) ∙ woken q))
+    (λ q. rw (post-unheard k s a sender head payload q) (ap alive (joined-state k s a sender head payload)))
   where
     -- who was woken was alive
     woken : hears s a sender head ≡ true → alive (wake s a 1 STATE) ≡ alive (s STATE)
@@ -852,14 +725,13 @@ clear s a = dropAll (at s ARRIVED 0) (letGo s a) a
 pub clear-keeps : (k : Caps) (s : State) (a : ℕ) → Good k s → a < k .actors → Good k (clear s a)
 clear-keeps k s a g l = dropAll-keeps (at s ARRIVED 0) k (letGo s a) a (letGo-keeps k s a g l)
 
--- the columns that messages do not write
-pub clear-else : (s : State) (a c : ℕ) → Elsewhere c → eqb c HAND ≡ false → clear s a c ≡ s c
-clear-else s a c e h = dropAll-else (at s ARRIVED 0) (letGo s a) a c e ∙ letGo-else s a c e h
+-- it writes columns of messages
+pub beside-clear : (s : State) (a : ℕ) → Beside MAILED s (clear s a)
+beside-clear s a = beside-over MAILED (beside-of (wrote-letGo s a)) (beside-dropAll (at s ARRIVED 0) (letGo s a) a) refl
 
 -- a hand that lets go changes no mailbox
 pub letGo-arrived : (s : State) (a : ℕ) → letGo s a ARRIVED ≡ s ARRIVED
-unfolding letGo poke with-col freeBit
-letGo-arrived s a = split (eqb (at s HAND a) 0) (λ q. rw q) (λ q. rw (q, unfill-is s (at s HAND a - 1)))
+letGo-arrived s a = wrote-letGo s a .cols ARRIVED refl
 
 -- no mailbox entry is the slot's
 pub clear-empties : (k : Caps) (s : State) (a : ℕ) → Good k s → a < k .actors → (e : ℕ) → at (clear s a) MAIL-OWNER e ≡ suc a → ⊥
@@ -869,4 +741,4 @@ clear-empties k s a g l e q =
 
 -- and its hand is empty
 pub clear-hand : (k : Caps) (s : State) (a : ℕ) → Good k s → a < k .actors → at (clear s a) HAND a ≡ 0
-clear-hand k s a g l = ap (λ (c : List ℕ). getD c a 0) (dropAll-else (at s ARRIVED 0) (letGo s a) a HAND (refl, refl, refl, refl, refl, refl, refl, refl, refl)) ∙ letGo-empty k s a g l
+clear-hand k s a g l = ap (λ (c : List ℕ). getD c a 0) (beside-dropAll (at s ARRIVED 0) (letGo s a) a .cols HAND refl) ∙ letGo-empty k s a g l

@@ -4,7 +4,7 @@ use native.Mathlib.Decide.{decLt}
 use native.Mathlib.Omega.{arith}
 use native.Mathlib.Numerals.{add-one}
 use mathlib.Core.Path.{_≡_, refl, sym, ap, ap₂, subst, _∙_}
-use mathlib.Core.Logic.{_↔_, _⊎_, inl, inr}
+use mathlib.Core.Logic.{_⊎_, inl, inr}
 use mathlib.Core.Bool.{Bool, true, false, cond, not, _&&_, _||_, and-false, and-true}
 use mathlib.Core.List.{List, [], _∷_, _++_, map, map-append}
 use lib.ListN.{length, getD, set, drop, length-append, length-map, List·getD-eq-default}
@@ -14,12 +14,12 @@ use lib.Dec.{eqb, ltb, leb, lit<}
 use borrow.Author.Tests.{eqb-true, eqb-false, eq-eqb, le-leb, le-ltb, leb-false, leb-true, lt-leb, lt-ltb, ltb-true, ltb-false, ne-eqb, not-true}
 use Rattle.ledger.specs.Lists.{those, first, butFirst}
 use Rattle.ledger.specs.Ledger.{Ledger, Message, Timer, mail, withMail}
-use Rattle.ledger.specs.Call.Answer.{plain}
-use Rattle.ledger.specs.Call.Call.{notify, receive}
-use Rattle.ledger.specs.Room.{datasLeft, mailsLeft, short}
-use Rattle.ledger.specs.Reckon.{cleared, done, entered, message, notice, runs, sent, tick, unmet, wanted}
-use Rattle.ledger.specs.Reckon.{letGo as release}
-use Rattle.ledger.specs.Reckon.{taken as grasped}
+use Rattle.ledger.specs.Call.Call.{op}
+use Rattle.ledger.specs.Call.Op.{notify, receive}
+use Rattle.ledger.specs.Room.{datasLeft, mailsLeft}
+use Rattle.ledger.specs.Reckon.{cleared, entered, message, notice, runs, sent, short, tick, wanted}
+use Rattle.ledger.specs.Reckon.{letGo as release, short}
+use Rattle.ledger.specs.Reckon.{short, taken as grasped}
 use Rattle.pools.specs.Pool.{lowest, occurs, Exact}
 use Rattle.pools.specs.Bits.{free}
 use Rattle.pools.specs.Lists.{keep, without}
@@ -37,18 +37,22 @@ use Rattle.tables.specs.declared.Caps.{Caps}
 use Rattle.tables.specs.Columns.{AGE, ARRIVAL, ARRIVED, CLOCK, DATA-FREE, HAND, LENGTH, MAIL-DATA, MAIL-FREE, MAIL-OWNER, PAYLOAD, RUNNING, SENDER, STATE}
 use Rattle.tables.specs.State.{State, at, head, poke, with-col}
 use Rattle.tables.specs.Action.{push, pull, takeBit, freeBit}
-use Rattle.tables.proofs.ActionLaws.{poke-other}
-use Rattle.rules.specs.Terms.{ANY-TAG, PAYLOAD-MOST, RUNS, WAITS, actorId, alive, fits, header, isActor, legal, runner, runnerId, wants}
-use Rattle.rules.specs.Agrees.{Agrees, actorAt, arrivals, boxAt, handAt, isWorn, linkAt, messageOf, monitorAt, timerAt, usedData, usedMail}
+use Rattle.rules.specs.Terms.{ANY-TAG, PAYLOAD-MOST, RUNS, WAITS, actorId, alive, fits, header, isActor, runner, runnerId, wants}
+use Rattle.rules.specs.Agrees.{Agrees, arrivals, boxAt, handAt, isWorn, messageOf, usedData, usedMail}
 use Rattle.rules.specs.Actions.{dataFor, delist, enlist, hasRoom, hears, letGo, mailFor, post, ready, unwait, wake}
-use Rattle.rules.specs.Calls.{dataOf, dropAll, dropFirst, await, badWait, deadlineAt, firstMatch, firstOf, handOver, matchAt, notAtAll, notifyRule, receiveBare, receiveRule}
+use Rattle.rules.specs.Calls.{await, dataOf, deadlineAt, dropAll, dropFirst, firstMatch, firstOf, handOver, matchAt, notAtAll, notifyEntry, receiveBare}
 use Rattle.rules.specs.Run.{sayReceived}
 use Rattle.rules.specs.declared.Received.{Received}
+use Rattle.rules.proofs.AgreeLaws.{agrees-messages, agrees-people, living}
+use Rattle.rules.proofs.Claims.{Agreed}
+use Rattle.rules.proofs.Frame.{Wrote, wrote-none, wrote-poke, wrote-still, wrote-within}
+use Rattle.rules.proofs.Frames.{MAILED, beside-dropFirst, wrote-await, wrote-enlist, wrote-letGo}
 use Rattle.rules.proofs.Good.{Good}
+use Rattle.rules.proofs.GuardLaws.{held, neither, says}
 use Rattle.rules.proofs.ColumnLaws.{alive-below, alive-of, alive-same, each-set, listed-room, other, set-zero, worn-same}
 use Rattle.rules.proofs.LedgerLaws.{idle-same, known-same, runner-alive, running-is, but-map, first-at, first-map, id-eqb, map-same-on, palm-owner, occurs-later, those-keep, those-map}
 use Rattle.rules.proofs.MessageLaws.{Wiped, Written, bytesAt, header-same, held-apart, held-once, held-palm, held-used, occurs-column, text-same}
-use Rattle.rules.proofs.Messages.{Elsewhere, Fine, boxes-exact, clear, data-below, data-free, dataOf-below, dataOf-is, delist-else, drop-good, drop-none, dropFirst-else, dropFirst-is, dropFirst-keeps, dropFirst-none, filled, handOver-keeps, hears-waits, ink, ink-is, joined, joined-keeps, letGo-else, letGo-empty, let-good, letGo-arrived, letGo-keeps, mail-below, mail-column, mail-free, mailOf, mailOf-below, notify-fine, post-heard, post-unheard, unfill-is, unfilled, unfilled-else, wake-alive, wake-deaf, wipe, wipe-is}
+use Rattle.rules.proofs.Messages.{Fine, boxes-exact, clear, data-below, data-free, dataOf-below, dataOf-is, delist-wrote, drop-good, drop-none, dropFirst-is, dropFirst-keeps, dropFirst-none, filled, handOver-keeps, hears-waits, ink, ink-is, joined, joined-keeps, letGo-empty, let-good, letGo-arrived, letGo-keeps, mail-below, mail-column, mail-free, mailOf, mailOf-below, notify-fine, post-heard, post-unheard, unfill-is, unfilled, wake-alive, wake-deaf, wipe, wipe-is, wrote-filled, wrote-unfilled}
 use Rattle.rules.proofs.Running.{wake-keeps}
 use Rattle.rules.proofs.RunningAgrees.{wake-agrees}
 
@@ -60,7 +64,7 @@ module _ (k : Caps) (s : State) (g : Good k s) (palms : List ℕ) (x : Exact pal
       elim (decLt 0 (occurs (suc d) (s MAIL-DATA))) [
         | yes o ↦
             let p = occurs-place (suc d) (s MAIL-DATA) o in
-            let m : p .0 < k .mails = omega (arith, p .1, g .sized .words 29 (lit< tt)) in
+            let m : p .0 < k .mails = omega (arith, p .1, g .sized .words MAIL-DATA (lit< tt)) in
             split (free (s MAIL-FREE) (p .0)) (λ q. absurd (omega (arith, p .2, g .mails (p .0) m .0 q .1))) (λ q. absurd (omega (arith, p .2, g .mails (p .0) m .1 (rw q) .1 .1)))
         | no o ↦ omega arith
       ]
@@ -71,64 +75,25 @@ module _ (k : Caps) (s : State) (g : Good k s) (palms : List ℕ) (x : Exact pal
       elim (decLt 0 (occurs (suc d) (s HAND))) [
         | yes o ↦
             let p = occurs-place (suc d) (s HAND) o in
-            absurd (omega (arith, p .2, g .actors (p .0) (omega (arith, p .1, g .sized .words 22 (lit< tt))) .1 .1))
+            absurd (omega (arith, p .2, g .actors (p .0) (omega (arith, p .1, g .sized .words HAND (lit< tt))) .1 .1))
         | no o ↦ omega arith
       ]
 
   -- exactly
   pub datas-exact : Exact (map (λ e. at s MAIL-DATA e - 1) (arrivals s) ++ map (λ a. at s HAND a - 1) palms) (usedData k s)
   datas-exact d =
-      let m = mail-column k s g (s MAIL-DATA) (g .sized .words 29 (lit< tt)) (λ e l q. g .mails e l .0 q .1) (λ e l q. g .mails e l .1 q .1 .0) d in
+      let m = mail-column k s g (s MAIL-DATA) (g .sized .words MAIL-DATA (lit< tt)) (λ e l q. g .mails e l .0 q .1) (λ e l q. g .mails e l .1 q .1 .0) d in
       let h = occurs-column d (λ a. not (unused (s HAND) a)) (s HAND) palms x (λ a l. rw (List·getD-eq-default (s HAND) 0 {n = a} l)) (λ a l. refl) in
       rw (occurs-append d (map (λ e. at s MAIL-DATA e - 1) (arrivals s)) (map (λ a. at s HAND a - 1) palms), m, h)
       (split (ltb d (k .datas)) (λ q. rw q (g .held d (ltb-true d (k .datas) q)))
       (λ q. let b = ltb-false d (k .datas) q in rw (q, mail-few d b, hand-few d b)))
 
 -- THE LAW of messages: where nothing but messages changed, the reckoning follows once it says what is in mailboxes and hands
-pub agrees-mail : (k : Caps) (l : Ledger) (s t : State) → Good k t → Agrees k l s → ((c : ℕ) → Elsewhere c → eqb c HAND ≡ false → t c ≡ s c) →
+pub agrees-mail : (k : Caps) (l : Ledger) (s t : State) → Good k t → Agrees k l s → Wrote MAILED s t →
     (boxes hands : List Message) (palms : List ℕ) → boxes ≡ map (boxAt t) (arrivals t) → Exact palms (λ a. not (unused (t HAND) a)) → hands ≡ map (handAt t) palms →
     Agrees k (withMail l (mail boxes hands)) t
-agrees-mail k l s t g r same boxes hands palms b x h =
-    let clock = same 6 (refl, refl, refl, refl, refl, refl, refl, refl, refl) refl in
-    let running = same 7 (refl, refl, refl, refl, refl, refl, refl, refl, refl) refl in
-    let states = same 18 (refl, refl, refl, refl, refl, refl, refl, refl, refl) refl in
-    let levels = same 19 (refl, refl, refl, refl, refl, refl, refl, refl, refl) refl in
-    let ages = same 21 (refl, refl, refl, refl, refl, refl, refl, refl, refl) refl in
-    let one = same 33 (refl, refl, refl, refl, refl, refl, refl, refl, refl) refl in
-    let two = same 34 (refl, refl, refl, refl, refl, refl, refl, refl, refl) refl in
-    let watcher = same 35 (refl, refl, refl, refl, refl, refl, refl, refl, refl) refl in
-    let watched = same 36 (refl, refl, refl, refl, refl, refl, refl, refl, refl) refl in
-    let eyed = same 37 (refl, refl, refl, refl, refl, refl, refl, refl, refl) refl in
-    let owner = same 38 (refl, refl, refl, refl, refl, refl, refl, refl, refl) refl in
-    let aged = same 39 (refl, refl, refl, refl, refl, refl, refl, refl, refl) refl in
-    let due = same 40 (refl, refl, refl, refl, refl, refl, refl, refl, refl) refl in
-    let interval = same 41 (refl, refl, refl, refl, refl, refl, refl, refl, refl) refl in
-    record {
-      sizes = r .sizes;
-      clock = rw clock (r .clock);
-      running = rw (running, ages) (r .running);
-      slots = r .slots;
-      allSlots = rw states (r .allSlots);
-      live = r .live ∙ map-same-on (actorAt s) (actorAt t) (r .slots) (λ e o. rw (ages, levels));
-      wornSlots = rw (states, ages) (r .wornSlots);
-      allBoxes = boxes-exact k t g;
-      boxes = b;
-      palms = palms;
-      allPalms = x;
-      hands = h;
-      allDatas = datas-exact k t g palms x;
-      clocks = r .clocks;
-      allClocks = rw owner (r .allClocks);
-      timers = r .timers ∙ map-same-on (timerAt s) (timerAt t) (r .clocks) (λ e o. rw (aged, ages, owner, due, interval));
-      wornClocks = rw (owner, aged) (r .wornClocks);
-      bonds = r .bonds;
-      allBonds = rw one (r .allBonds);
-      links = r .links ∙ map-same-on (linkAt s) (linkAt t) (r .bonds) (λ e o. rw (ages, one, two));
-      eyes = r .eyes;
-      allEyes = rw watcher (r .allEyes);
-      monitors = r .monitors ∙ map-same-on (monitorAt s) (monitorAt t) (r .eyes) (λ e o. rw (eyed, ages, watcher, watched));
-      wornEyes = rw (watcher, eyed) (r .wornEyes);
-    }
+agrees-mail k l s t g r w boxes hands palms b x h =
+    agrees-messages w r _ (living w refl) refl (record { allBoxes = boxes-exact k t g; boxes = b; palms = palms; allPalms = x; hands = h; allDatas = datas-exact k t g palms x })
 
 -- ---- entries that the reckoning's messages stand in
 -- no data entry is in two hands
@@ -170,7 +135,7 @@ module _ (k : Caps) (s : State) (g : Good k s) where
 
     -- it has a word
     arrival-in : e < length (s MAIL-DATA)
-    arrival-in = omega (arith, arrival-below, g .sized .words 29 (lit< tt))
+    arrival-in = omega (arith, arrival-below, g .sized .words MAIL-DATA (lit< tt))
 
     -- the data entry has a payload of a legal length
     arrival-long : at s LENGTH (at s MAIL-DATA e - 1) ≤ 252
@@ -184,7 +149,7 @@ module _ (k : Caps) (s : State) (g : Good k s) where
 
     -- it names a data entry
     palm-data : (at s HAND b ≡ suc (at s HAND b - 1)) × (at s HAND b - 1 < k .datas)
-    palm-data = let c = g .actors b (omega (arith, palm-in, g .sized .words 22 (lit< tt))) .1 .1 in (omega arith, omega arith)
+    palm-data = let c = g .actors b (omega (arith, palm-in, g .sized .words HAND (lit< tt))) .1 .1 in (omega arith, omega arith)
 
     -- which has a payload of a legal length
     palm-long : at s LENGTH (at s HAND b - 1) ≤ 252
@@ -201,32 +166,32 @@ handless id l = withMail l (mail (l .mail .boxes) (those (λ m. not (eqb (m .to)
 
 module _ (k : Caps) (s : State) (l : Ledger) (g : Good k s) (r : Agrees k l s) (a : ℕ) (there : alive (s STATE) a ≡ true) where
   -- the hands of the others
-  hands-left : those (λ m. not (eqb (m .to) (actorId s a))) (l .mail .hands) ≡ map (handAt s) (keep (λ b. not (eqb b a)) (r .palms))
+  hands-left : those (λ m. not (eqb (m .to) (actorId s a))) (l .mail .hands) ≡ map (handAt s) (keep (λ b. not (eqb b a)) (r .mail .palms))
   hands-left =
-      ap (those (λ m. not (eqb (m .to) (actorId s a)))) (r .hands)
-      ∙ those-map (λ m. not (eqb (m .to) (actorId s a))) (handAt s) (r .palms)
-      ∙ ap (map (handAt s)) (keep-same-on (λ b. not (eqb (actorId s b) (actorId s a))) (λ b. not (eqb b a)) (r .palms) (λ b o. ap not (id-eqb k s g b a (palm-owner k s g l r b o) there)))
+      ap (those (λ m. not (eqb (m .to) (actorId s a)))) (r .mail .hands)
+      ∙ those-map (λ m. not (eqb (m .to) (actorId s a))) (handAt s) (r .mail .palms)
+      ∙ ap (map (handAt s)) (keep-same-on (λ b. not (eqb (actorId s b) (actorId s a))) (λ b. not (eqb b a)) (r .mail .palms) (λ b o. ap not (id-eqb k s g b a (palm-owner k s g l r b o) there)))
 
   module _ (d : ℕ) (h : at s HAND a ≡ suc d) (q : List ℕ) (w : Wiped (s PAYLOAD) q d) where
     let-agrees : Agrees k (handless (actorId s a) l) (poke (unfilled s d q) HAND a 0)
     unfolding poke with-col freeBit
     let-agrees =
         let t : State = poke (unfilled s d q) HAND a 0 in
-        let n : a < k .actors = omega (arith, alive-below (s STATE) a there, g .sized .words 18 (lit< tt)) in
+        let n : a < k .actors = omega (arith, alive-below (s STATE) a there, g .sized .words STATE (lit< tt)) in
         let full : at s HAND a ≡ 0 → ⊥ = λ z. omega arith in
         let below : d < k .datas = omega (arith, palm-data k s g a full .1) in
-        agrees-mail k l s t (let-good k s g a n d h q w) r (λ c e m. poke-other (unfilled s d q) HAND a 0 c m ∙ unfilled-else s d q c e)
-        (l .mail .boxes) (those (λ m. not (eqb (m .to) (actorId s a))) (l .mail .hands)) (keep (λ b. not (eqb b a)) (r .palms))
-        (r .boxes ∙ map-same-on (boxAt s) (boxAt t) (arrivals s) (λ e o.
+        agrees-mail k l s t (let-good k s g a n d h q w) r (wrote-within MAILED (wrote-poke (wrote-unfilled (wrote-none s) d q (w .long)) HAND a 0) refl)
+        (l .mail .boxes) (those (λ m. not (eqb (m .to) (actorId s a))) (l .mail .hands)) (keep (λ b. not (eqb b a)) (r .mail .palms))
+        (r .mail .boxes ∙ map-same-on (boxAt s) (boxAt t) (arrivals s) (λ e o.
         let c : eqb (at s MAIL-DATA e - 1) d ≡ false = ne-eqb (at s MAIL-DATA e - 1) d (λ z. held-apart (k .datas) (s MAIL-DATA) (s HAND) (s DATA-FREE) (g .held) d below e a (arrival-in k s g e o) (palm-in k s g a full) (omega (arith, arrival-data k s g e o .0)) h) in
         message-same s t (actorId s (at s MAIL-OWNER e - 1)) (at s MAIL-DATA e - 1) (other (s SENDER) d 0 (at s MAIL-DATA e - 1) c) (other (s LENGTH) d 0 (at s MAIL-DATA e - 1) c) (w .apart (at s MAIL-DATA e - 1) c) (arrival-long k s g e o)))
-        (exact-keep (λ b. not (unused (s HAND) b)) (λ b. not (unused (set (s HAND) a 0) b)) (r .palms) (λ b. not (eqb b a)) (r .allPalms) (λ b.
+        (exact-keep (λ b. not (unused (s HAND) b)) (λ b. not (unused (set (s HAND) a 0) b)) (r .mail .palms) (λ b. not (eqb b a)) (r .mail .allPalms) (λ b.
         each-set (λ b. not (unused (set (s HAND) a 0) b) ≡ not (unused (s HAND) b) && not (eqb b a)) a b
         (rw (set-zero (s HAND) a, eq-eqb a a refl) (sym (and-false (not (unused (s HAND) a)))))
         (λ v. rw (other (s HAND) a 0 b v, v) (sym (and-true (not (unused (s HAND) b)))))))
-        (hands-left ∙ map-same-on (handAt s) (handAt t) (keep (λ b. not (eqb b a)) (r .palms)) (λ b o.
-        let p = keep-in (λ b. not (eqb b a)) (r .palms) b o in
-        let f = palm-full s (r .palms) (r .allPalms) b (p .1) in
+        (hands-left ∙ map-same-on (handAt s) (handAt t) (keep (λ b. not (eqb b a)) (r .mail .palms)) (λ b o.
+        let p = keep-in (λ b. not (eqb b a)) (r .mail .palms) b o in
+        let f = palm-full s (r .mail .palms) (r .mail .allPalms) b (p .1) in
         let v : eqb b a ≡ false = not-true (eqb b a) (p .0) in
         let c : eqb (at s HAND b - 1) d ≡ false = ne-eqb (at s HAND b - 1) d (λ z. eqb-false b a v (palm-once k s g d below b a (palm-in k s g b f) (palm-in k s g a full) (omega (arith, palm-data k s g b f .0)) h)) in
         rw (other (s HAND) a 0 b v) (message-same s t (actorId s b) (at s HAND b - 1) (other (s SENDER) d 0 (at s HAND b - 1) c) (other (s LENGTH) d 0 (at s HAND b - 1) c) (w .apart (at s HAND b - 1) c) (palm-long k s g b f))))
@@ -236,8 +201,8 @@ module _ (k : Caps) (s : State) (l : Ledger) (g : Good k s) (r : Agrees k l s) (
   unfolding letGo
   letGo-agrees-at =
       split (eqb (at s HAND a) 0)
-      (λ q. rw q (agrees-mail k l s s g r (λ c e m. refl) (l .mail .boxes) (those (λ m. not (eqb (m .to) (actorId s a))) (l .mail .hands)) (r .palms) (r .boxes) (r .allPalms)
-      (hands-left ∙ ap (map (handAt s)) (keep-all-on (λ b. not (eqb b a)) (r .palms) (λ b o. rw (ne-eqb b a (λ e. palm-full s (r .palms) (r .allPalms) b o (rw e (eqb-true (at s HAND a) 0 q)))))))))
+      (λ q. rw q (agrees-mail k l s s g r (wrote-still MAILED s) (l .mail .boxes) (those (λ m. not (eqb (m .to) (actorId s a))) (l .mail .hands)) (r .mail .palms) (r .mail .boxes) (r .mail .allPalms)
+      (hands-left ∙ ap (map (handAt s)) (keep-all-on (λ b. not (eqb b a)) (r .mail .palms) (λ b o. rw (ne-eqb b a (λ e. palm-full s (r .mail .palms) (r .mail .allPalms) b o (rw e (eqb-true (at s HAND a) 0 q)))))))))
       (λ q. let n = eqb-false (at s HAND a) 0 q in
       rw (q, unfill-is s (at s HAND a - 1)) (let-agrees (at s HAND a - 1) (omega arith) (wipe (s PAYLOAD) (at s HAND a - 1)) (wipe-is k s (at s HAND a - 1) (g .sized) (palm-data k s g a n .1))))
 
@@ -249,17 +214,12 @@ letGo-agrees k s l g r q = subst (λ (id : ℕ). Agrees k (handless id l) (letGo
 -- ---- a message joins a mailbox
 module _ (k : Caps) (s : State) (l : Ledger) (g : Good k s) (r : Agrees k l s) (a : ℕ) (there : alive (s STATE) a ≡ true) (d e : ℕ) (below : d < k .datas) (under : e < k .mails) (df : free (s DATA-FREE) d ≡ true) (mf : free (s MAIL-FREE) e ≡ true) (sender head′ : ℕ) (payload : List ℕ)
     (q : List ℕ) (w : Written (s PAYLOAD) q d head′ payload) (good : Good k (enlist (filled s d sender (length payload) q) e a d)) where
-  -- the columns that a message does not write
-  enlist-else : (c : ℕ) → Elsewhere c → enlist (filled s d sender (length payload) q) e a d c ≡ s c
-  unfolding enlist push poke with-col takeBit
-  enlist-else c x = simp (x .0, x .5, x .4, x .3, x .1, x .8, x .7, x .6, x .2)
-
   -- the arrivals have one more
   enlist-arrivals : arrivals (enlist (filled s d sender (length payload) q) e a d) ≡ arrivals s ++ (e ∷ [])
   unfolding enlist push poke with-col takeBit
   enlist-arrivals =
-      let room = listed-room (k .mails) (at s ARRIVED 0) (s ARRIVAL) (g .head .1 .1) (g .sized .words 30 (lit< tt)) (g .arrivals) (λ f. not (free (s MAIL-FREE) f)) e under (rw mf) (g .arrived) in
-      rw (getD-set-same (s ARRIVED) 0 (at s ARRIVED 0 + 1) 0 (omega (arith, g .sized .words 9 (lit< tt))), add-one (at s ARRIVED 0)) (take-suc-set (s ARRIVAL) (at s ARRIVED 0) e (omega (arith, room, g .sized .words 30 (lit< tt))))
+      let room = listed-room (k .mails) (at s ARRIVED 0) (s ARRIVAL) (g .head .1 .1) (g .sized .words ARRIVAL (lit< tt)) (g .arrivals) (λ f. not (free (s MAIL-FREE) f)) e under (rw mf) (g .arrived) in
+      rw (getD-set-same (s ARRIVED) 0 (at s ARRIVED 0 + 1) 0 (omega (arith, g .sized .words ARRIVED (lit< tt))), add-one (at s ARRIVED 0)) (take-suc-set (s ARRIVAL) (at s ARRIVED 0) e (omega (arith, room, g .sized .words ARRIVAL (lit< tt))))
 
   -- a data entry in use is another
   else-data : (c : ℕ) → free (s DATA-FREE) c ≡ false → eqb c d ≡ false
@@ -279,17 +239,17 @@ module _ (k : Caps) (s : State) (l : Ledger) (g : Good k s) (r : Agrees k l s) (
   enlist-new : message (actorId s a) sender (classOf head′) (tagOf head′) payload ≡ boxAt (enlist (filled s d sender (length payload) q) e a d) e
   unfolding enlist push poke with-col takeBit
   enlist-new =
-      let o : getD (set (s MAIL-OWNER) e (suc a)) e 0 - 1 ≡ a = omega (arith, getD-set-same (s MAIL-OWNER) e (suc a) 0 (omega (arith, g .sized .words 28 (lit< tt)))) in
-      let m : getD (set (s MAIL-DATA) e (suc d)) e 0 - 1 ≡ d = omega (arith, getD-set-same (s MAIL-DATA) e (suc d) 0 (omega (arith, g .sized .words 29 (lit< tt)))) in
-      let n : getD (set (s SENDER) d sender) d 0 ≡ sender = getD-set-same (s SENDER) d sender 0 (omega (arith, g .sized .words 31 (lit< tt))) in
-      let z : getD (set (s LENGTH) d (length payload)) d 0 ≡ length payload = getD-set-same (s LENGTH) d (length payload) 0 (omega (arith, g .sized .words 32 (lit< tt))) in
+      let o : getD (set (s MAIL-OWNER) e (suc a)) e 0 - 1 ≡ a = omega (arith, getD-set-same (s MAIL-OWNER) e (suc a) 0 (omega (arith, g .sized .words MAIL-OWNER (lit< tt)))) in
+      let m : getD (set (s MAIL-DATA) e (suc d)) e 0 - 1 ≡ d = omega (arith, getD-set-same (s MAIL-DATA) e (suc d) 0 (omega (arith, g .sized .words MAIL-DATA (lit< tt)))) in
+      let n : getD (set (s SENDER) d sender) d 0 ≡ sender = getD-set-same (s SENDER) d sender 0 (omega (arith, g .sized .words SENDER (lit< tt))) in
+      let z : getD (set (s LENGTH) d (length payload)) d 0 ≡ length payload = getD-set-same (s LENGTH) d (length payload) 0 (omega (arith, g .sized .words LENGTH (lit< tt))) in
       rw (o, m, n, z, w .header, w .text)
 
   -- the hands
-  enlist-hands : (b : ℕ) → 0 < occurs b (r .palms) → handAt s b ≡ handAt (enlist (filled s d sender (length payload) q) e a d) b
+  enlist-hands : (b : ℕ) → 0 < occurs b (r .mail .palms) → handAt s b ≡ handAt (enlist (filled s d sender (length payload) q) e a d) b
   unfolding enlist push poke with-col takeBit
   enlist-hands b o =
-      let f = palm-full s (r .palms) (r .allPalms) b o in
+      let f = palm-full s (r .mail .palms) (r .mail .allPalms) b o in
       let c = else-data (at s HAND b - 1) (held-palm (k .datas) (s MAIL-DATA) (s HAND) (s DATA-FREE) (g .held) (at s HAND b - 1) (palm-data k s g b f .1) b (palm-in k s g b f) (palm-data k s g b f .0)) in
       message-same s (enlist (filled s d sender (length payload) q) e a d) (actorId s b) (at s HAND b - 1)
       (other (s SENDER) d sender (at s HAND b - 1) c) (other (s LENGTH) d (length payload) (at s HAND b - 1) c) (w .apart (at s HAND b - 1) c) (palm-long k s g b f)
@@ -303,10 +263,10 @@ module _ (k : Caps) (s : State) (l : Ledger) (g : Good k s) (r : Agrees k l s) (
   enlist-agrees : Agrees k (sent (message (actorId s a) sender (classOf head′) (tagOf head′) payload ∷ []) l) (enlist (filled s d sender (length payload) q) e a d)
   enlist-agrees =
       let t : State = enlist (filled s d sender (length payload) q) e a d in
-      agrees-mail k l s t good r (λ c x m. enlist-else c x) (l .mail .boxes ++ (message (actorId s a) sender (classOf head′) (tagOf head′) payload ∷ [])) (l .mail .hands) (r .palms)
-      (ap₂ (λ (x y : List Message). x ++ y) (r .boxes ∙ map-same-on (boxAt s) (boxAt t) (arrivals s) enlist-old) (ap (λ (m : Message). m ∷ []) enlist-new)
+      agrees-mail k l s t good r (wrote-within MAILED (wrote-enlist (wrote-filled (wrote-none s) d sender (length payload) q (w .long)) e a d) refl) (l .mail .boxes ++ (message (actorId s a) sender (classOf head′) (tagOf head′) payload ∷ [])) (l .mail .hands) (r .mail .palms)
+      (ap₂ (λ (x y : List Message). x ++ y) (r .mail .boxes ∙ map-same-on (boxAt s) (boxAt t) (arrivals s) enlist-old) (ap (λ (m : Message). m ∷ []) enlist-new)
       ∙ sym (map-append (boxAt t) (arrivals s) (e ∷ [])) ∙ ap (map (boxAt t)) (sym enlist-arrivals))
-      (rw enlist-palms (r .allPalms)) (r .hands ∙ map-same-on (handAt s) (handAt t) (r .palms) enlist-hands)
+      (rw enlist-palms (r .mail .allPalms)) (r .mail .hands ∙ map-same-on (handAt s) (handAt t) (r .mail .palms) enlist-hands)
 
 -- a message that its target does not wait for
 joined-agrees : (k : Caps) (s : State) (l : Ledger) (a : ℕ) → Good k s → Agrees k l s → alive (s STATE) a ≡ true → (sender head : ℕ) (payload : List ℕ) → hasRoom k s ≡ true → Fine (s AGE) sender head payload →
@@ -323,7 +283,7 @@ pub post-agrees : (k : Caps) (s : State) (l : Ledger) (a : ℕ) → Good k s →
 unfolding ready unwait push poke with-col
 post-agrees k s l a g r there sender head payload roomy fine =
     let n = alive-below (s STATE) a there in
-    let m : a < k .actors = omega (arith, g .sized .words 18 (lit< tt)) in
+    let m : a < k .actors = omega (arith, g .sized .words STATE (lit< tt)) in
     split (hears s a sender head)
     (λ q. let u = hears-waits s a sender head q in
     rw (post-heard k s a sender head payload q)
@@ -341,25 +301,18 @@ not-not true = refl
 not-not false = refl
 
 -- THE THEOREM of notify, and the reckoning
-pub notify-agrees : (target tag : ℕ) (payload : List ℕ) (k : Caps) (s : State) (l : Ledger) → Good k s → Agrees k l s →
-    Agrees k (entered (record { call = notify target tag payload; answer = plain (notifyRule target tag payload k s .ans) }) l) (notifyRule target tag payload k s .state)
-unfolding notifyRule entered done
-notify-agrees target tag payload k s l g r =
-    split (eqb (runner s) 0) (λ q. rw q r)
-    (λ q. split (leb ANY-TAG tag) (λ b. rw (q, b) r)
-    (λ b. split (ltb PAYLOAD-MOST (length payload)) (λ c. rw (q, b, c) r)
-    (λ c. split (isActor s target)
-    (λ e. split (hasRoom k s)
-    (λ f.
+pub notify-agrees : (target tag : ℕ) (payload : List ℕ) → Agreed (notify target tag payload)
+unfolding entered
+notify-agrees target tag payload k s l g r p =
     let a = slotOf 64 target in
-    let t = leb-false ANY-TAG tag b in
+    let n = neither (leb ANY-TAG tag) (ltb PAYLOAD-MOST (length payload)) (p .1 .0) in
+    let e = held (isActor s target) (p .1 .1 .0) in
+    let t = leb-false ANY-TAG tag (n .0) in
     let m : message (actorId s a) (runnerId s) (classOf (packed 0 0 tag)) (tagOf (packed 0 0 tag)) payload ≡ message target (l .people .running) 0 tag payload =
-    same-message payload (sym (live-is 64 (s STATE) (s AGE) target (lit< tt) e)) (sym (running-is k s g l r q)) (class-packed 0 0 tag (omega arith) (omega arith)) (tag-packed 0 0 tag (omega arith) (omega arith)) in
-    rw (q, b, c, e, f) (subst (λ (m : Message). Agrees k (sent (m ∷ []) l) (post k s a (runnerId s) (packed 0 0 tag) payload)) m
-    (post-agrees k s l a g r (alive-of (s STATE) a (of-live 64 (s STATE) (s AGE) target e .0)) (runnerId s) (packed 0 0 tag) payload f
-    (notify-fine k s (runner s - 1) tag payload g (runner-alive k s g q) t (ltb-false PAYLOAD-MOST (length payload) c)))))
-    (λ f. rw (q, b, c, e, f) r))
-    (λ e. rw (q, b, c, e) r))))
+    same-message payload (sym (live-is 64 (s STATE) (s AGE) target (lit< tt) e)) (sym (running-is k s g l r (p .0))) (class-packed 0 0 tag (omega arith) (omega arith)) (tag-packed 0 0 tag (omega arith) (omega arith)) in
+    subst (λ (m : Message). Agrees k (sent (m ∷ []) l) (post k s a (runnerId s) (packed 0 0 tag) payload)) m
+    (post-agrees k s l a g r (alive-of (s STATE) a (of-live 64 (s STATE) (s AGE) target e .0)) (runnerId s) (packed 0 0 tag) payload (held (hasRoom k s) (p .1 .1 .1 .0))
+    (notify-fine k s (runner s - 1) tag payload g (runner-alive k s g (p .0)) t (ltb-false PAYLOAD-MOST (length payload) (n .1))))
 
 -- ---- room
 -- a pool has a free entry exactly where fewer entries are in use than it has
@@ -375,25 +328,25 @@ module _ (k : Caps) (s : State) (l : Ledger) (g : Good k s) (r : Agrees k l s) w
   -- mailbox entries
   mails-same : ltb (mailFor k s) (k .mails) ≡ not (eqb (mailsLeft l) 0)
   mails-same =
-      let n : length (l .mail .boxes) ≡ length (arrivals s) = ap length (r .boxes) ∙ length-map (arrivals s) (boxAt s) in
-      rw (r .sizes, n) (left-same (usedMail k s) (free (s MAIL-FREE)) (k .mails) (arrivals s) (λ e h. rw (le-ltb e (k .mails) h)) (r .allBoxes) (λ e h. rw (lt-ltb e (k .mails) h) (sym (not-not (free (s MAIL-FREE) e)))))
+      let n : length (l .mail .boxes) ≡ length (arrivals s) = ap length (r .mail .boxes) ∙ length-map (arrivals s) (boxAt s) in
+      rw (r .sizes, n) (left-same (usedMail k s) (free (s MAIL-FREE)) (k .mails) (arrivals s) (λ e h. rw (le-ltb e (k .mails) h)) (r .mail .allBoxes) (λ e h. rw (lt-ltb e (k .mails) h) (sym (not-not (free (s MAIL-FREE) e)))))
 
   -- data entries
   datas-same : ltb (dataFor k s) (k .datas) ≡ not (eqb (datasLeft l) 0)
   datas-same =
-      let es : List ℕ = map (λ e. at s MAIL-DATA e - 1) (arrivals s) ++ map (λ a. at s HAND a - 1) (r .palms) in
-      let n : length (l .mail .boxes) + length (l .mail .hands) ≡ length (map (λ e. at s MAIL-DATA e - 1) (arrivals s) ++ map (λ a. at s HAND a - 1) (r .palms)) =
+      let es : List ℕ = map (λ e. at s MAIL-DATA e - 1) (arrivals s) ++ map (λ a. at s HAND a - 1) (r .mail .palms) in
+      let n : length (l .mail .boxes) + length (l .mail .hands) ≡ length (map (λ e. at s MAIL-DATA e - 1) (arrivals s) ++ map (λ a. at s HAND a - 1) (r .mail .palms)) =
       omega (
         arith,
-        ap length (r .boxes),
+        ap length (r .mail .boxes),
         length-map (arrivals s) (boxAt s),
-        ap length (r .hands),
-        length-map (r .palms) (handAt s),
-        length-append (map (λ e. at s MAIL-DATA e - 1) (arrivals s)) (map (λ a. at s HAND a - 1) (r .palms)),
+        ap length (r .mail .hands),
+        length-map (r .mail .palms) (handAt s),
+        length-append (map (λ e. at s MAIL-DATA e - 1) (arrivals s)) (map (λ a. at s HAND a - 1) (r .mail .palms)),
         length-map (arrivals s) (λ e. at s MAIL-DATA e - 1),
-        length-map (r .palms) (λ a. at s HAND a - 1),
+        length-map (r .mail .palms) (λ a. at s HAND a - 1),
       ) in
-      rw (r .sizes, n) (left-same (usedData k s) (free (s DATA-FREE)) (k .datas) (map (λ e. at s MAIL-DATA e - 1) (arrivals s) ++ map (λ a. at s HAND a - 1) (r .palms)) (λ e h. rw (le-ltb e (k .datas) h)) (r .allDatas) (λ e h. rw (lt-ltb e (k .datas) h) (sym (not-not (free (s DATA-FREE) e)))))
+      rw (r .sizes, n) (left-same (usedData k s) (free (s DATA-FREE)) (k .datas) (map (λ e. at s MAIL-DATA e - 1) (arrivals s) ++ map (λ a. at s HAND a - 1) (r .mail .palms)) (λ e h. rw (le-ltb e (k .datas) h)) (r .mail .allDatas) (λ e h. rw (lt-ltb e (k .datas) h) (sym (not-not (free (s DATA-FREE) e)))))
 
   -- there is room for a message exactly where the reckoning has something left of both pools
   pub room-same : hasRoom k s ≡ not (eqb (mailsLeft l) 0 || eqb (datasLeft l) 0)
@@ -404,10 +357,9 @@ module _ (k : Caps) (s : State) (l : Ledger) (g : Good k s) (r : Agrees k l s) w
       both true b = refl
       both false b = refl
 
-  -- the test of room
-  notify-test : (target tag : ℕ) (payload : List ℕ) → eqb (notifyRule target tag payload k s .ans) 2 ≡ short l (notify target tag payload)
-  unfolding notifyRule short
-  notify-test target tag payload =
+  -- THE THEOREM: notify answers 2 exactly where the reckoning says that it is short of room
+  pub notify-short : (target tag : ℕ) (payload : List ℕ) → says (λ n. n) 2 (notifyEntry target tag payload .tests k s) ≡ short l (op (notify target tag payload))
+  notify-short target tag payload =
       rw (← idle-same k s g l r, ← known-same k s g l r target)
       (split (eqb (runner s) 0) (λ q. rw q)
       (λ q. split (leb ANY-TAG tag) (λ b. rw (q, b, le-ltb tag ANY-TAG (leb-true ANY-TAG tag b)))
@@ -415,17 +367,11 @@ module _ (k : Caps) (s : State) (l : Ledger) (g : Good k s) (r : Agrees k l s) w
       (λ c. rw (q, b, c, lt-ltb tag ANY-TAG (leb-false ANY-TAG tag b), le-leb (length payload) PAYLOAD-MOST (ltb-false PAYLOAD-MOST (length payload) c))
       (split (isActor s target) (λ e. rw (e, room-same) (split (eqb (mailsLeft l) 0 || eqb (datasLeft l) 0) (λ f. rw f) (λ f. rw f))) (λ e. rw e))))))
 
-  -- THE THEOREM: notify answers 2 exactly where the reckoning says that it is short of room
-  pub notify-short : (target tag : ℕ) (payload : List ℕ) → (notifyRule target tag payload k s .ans ≡ 2) ↔ (short l (notify target tag payload) ≡ true)
-  notify-short target tag payload =
-      let e = notify-test target tag payload in
-      (λ q. sym e ∙ eq-eqb (notifyRule target tag payload k s .ans) 2 q, λ q. eqb-true (notifyRule target tag payload k s .ans) 2 (e ∙ q))
-
 -- ---- a mailbox entry leaves
 module _ (k : Caps) (s : State) (l : Ledger) (g : Good k s) (r : Agrees k l s) (j : ℕ) (jl : j < at s ARRIVED 0) where
   -- there are as many arrivals as the head says
   arrivals-long : length (arrivals s) ≡ at s ARRIVED 0
-  arrivals-long = length-take-le (at s ARRIVED 0) (s ARRIVAL) (omega (arith, g .head .1 .1, g .sized .words 30 (lit< tt)))
+  arrivals-long = length-take-le (at s ARRIVED 0) (s ARRIVAL) (omega (arith, g .head .1 .1, g .sized .words ARRIVAL (lit< tt)))
 
   -- the j-th of them
   arrival-at : getD (arrivals s) j 0 ≡ mailOf s j
@@ -435,7 +381,7 @@ module _ (k : Caps) (s : State) (l : Ledger) (g : Good k s) (r : Agrees k l s) (
   delist-list : arrivals (delist s j) ≡ without j (arrivals s)
   unfolding delist pull poke with-col freeBit
   delist-list =
-      rw (getD-set-same (s ARRIVED) 0 (at s ARRIVED 0 - 1) 0 (omega (arith, g .sized .words 9 (lit< tt))))
+      rw (getD-set-same (s ARRIVED) 0 (at s ARRIVED 0 - 1) 0 (omega (arith, g .sized .words ARRIVED (lit< tt))))
       (take-at (without j (arrivals s)) (0 ∷ drop (at s ARRIVED 0) (s ARRIVAL)) (at s ARRIVED 0 - 1) (omega (arith, length-without (arrivals s) j (omega (arith, arrivals-long)), arrivals-long)))
 
   -- what is left was there, and is another
@@ -452,11 +398,11 @@ module _ (k : Caps) (s : State) (l : Ledger) (g : Good k s) (r : Agrees k l s) (
 
     -- the reckoning's first
     first-box : first p (l .mail .boxes) ≡ boxAt s (mailOf s j) ∷ []
-    first-box = ap (first p) (r .boxes) ∙ first-map p (boxAt s) (arrivals s) ∙ ap (map (boxAt s)) (found .0) ∙ ap (λ (e : ℕ). boxAt s e ∷ []) arrival-at
+    first-box = ap (first p) (r .mail .boxes) ∙ first-map p (boxAt s) (arrivals s) ∙ ap (map (boxAt s)) (found .0) ∙ ap (λ (e : ℕ). boxAt s e ∷ []) arrival-at
 
     -- and the others
     but-boxes : butFirst p (l .mail .boxes) ≡ map (boxAt s) (without j (arrivals s))
-    but-boxes = ap (butFirst p) (r .boxes) ∙ but-map p (boxAt s) (arrivals s) ∙ ap (map (boxAt s)) (found .1)
+    but-boxes = ap (butFirst p) (r .mail .boxes) ∙ but-map p (boxAt s) (arrivals s) ∙ ap (map (boxAt s)) (found .1)
 
     -- ---- it goes to an empty hand of its owner
     module _ (a : ℕ) (there : alive (s STATE) a ≡ true) (empty : at s HAND a ≡ 0) (mine : at s MAIL-OWNER (mailOf s j) ≡ suc a) where
@@ -465,35 +411,30 @@ module _ (k : Caps) (s : State) (l : Ledger) (g : Good k s) (r : Agrees k l s) (
       unfolding handOver poke with-col
       over-list = delist-list
 
-      -- the columns that are not written
-      over-else : (c : ℕ) → Elsewhere c → eqb c HAND ≡ false → handOver s a j c ≡ s c
-      unfolding handOver
-      over-else c e m = poke-other (delist s j) HAND a (suc (dataOf s j)) c m ∙ delist-else s j c e
-
       -- the messages that are left
       over-box : (f : ℕ) → 0 < occurs f (without j (arrivals s)) → boxAt s f ≡ boxAt (handOver s a j) f
       unfolding handOver delist pull poke with-col freeBit
       over-box f o = let n = delist-left f o .1 in rw (other (s MAIL-OWNER) (mailOf s j) 0 f n, other (s MAIL-DATA) (mailOf s j) 0 f n)
 
       -- what was in hands
-      over-hand : (b : ℕ) → 0 < occurs b (r .palms) → handAt s b ≡ handAt (handOver s a j) b
+      over-hand : (b : ℕ) → 0 < occurs b (r .mail .palms) → handAt s b ≡ handAt (handOver s a j) b
       unfolding handOver delist pull poke with-col freeBit
-      over-hand b o = rw (other (s HAND) a (suc (dataOf s j)) b (ne-eqb b a (λ z. palm-full s (r .palms) (r .allPalms) b o (rw z empty))))
+      over-hand b o = rw (other (s HAND) a (suc (dataOf s j)) b (ne-eqb b a (λ z. palm-full s (r .mail .palms) (r .mail .allPalms) b o (rw z empty))))
 
       -- what is in the hand
       over-new : boxAt s (mailOf s j) ≡ handAt (handOver s a j) a
       unfolding handOver delist pull poke with-col freeBit
       over-new =
-          let n : getD (set (s HAND) a (suc (dataOf s j))) a 0 - 1 ≡ dataOf s j = omega (arith, getD-set-same (s HAND) a (suc (dataOf s j)) 0 (omega (arith, alive-below (s STATE) a there, g .sized .words 18 (lit< tt), g .sized .words 22 (lit< tt)))) in
+          let n : getD (set (s HAND) a (suc (dataOf s j))) a 0 - 1 ≡ dataOf s j = omega (arith, getD-set-same (s HAND) a (suc (dataOf s j)) 0 (omega (arith, alive-below (s STATE) a there, g .sized .words STATE (lit< tt), g .sized .words HAND (lit< tt)))) in
           let o : at s MAIL-OWNER (mailOf s j) - 1 ≡ a = omega arith in
           rw (n, o)
 
       -- the hands, with the new one
-      over-palms : Exact (r .palms ++ (a ∷ [])) (λ b. not (unused (handOver s a j HAND) b))
+      over-palms : Exact (r .mail .palms ++ (a ∷ [])) (λ b. not (unused (handOver s a j HAND) b))
       unfolding handOver delist pull poke with-col freeBit
       over-palms =
-          exact-put (λ b. not (unused (s HAND) b)) (λ b. not (unused (set (s HAND) a (suc (dataOf s j))) b)) (r .palms) a (r .allPalms) (rw empty)
-          (rw (ne-eqb (getD (set (s HAND) a (suc (dataOf s j))) a 0) 0 (λ z. omega (arith, getD-set-same (s HAND) a (suc (dataOf s j)) 0 (omega (arith, alive-below (s STATE) a there, g .sized .words 18 (lit< tt), g .sized .words 22 (lit< tt)))))))
+          exact-put (λ b. not (unused (s HAND) b)) (λ b. not (unused (set (s HAND) a (suc (dataOf s j))) b)) (r .mail .palms) a (r .mail .allPalms) (rw empty)
+          (rw (ne-eqb (getD (set (s HAND) a (suc (dataOf s j))) a 0) 0 (λ z. omega (arith, getD-set-same (s HAND) a (suc (dataOf s j)) 0 (omega (arith, alive-below (s STATE) a there, g .sized .words STATE (lit< tt), g .sized .words HAND (lit< tt)))))))
           (λ b n. rw (other (s HAND) a (suc (dataOf s j)) b (ne-eqb b a n)))
 
       -- THE THEOREM of a message that goes to a hand
@@ -501,11 +442,11 @@ module _ (k : Caps) (s : State) (l : Ledger) (g : Good k s) (r : Agrees k l s) (
       unfolding grasped
       handOver-agrees =
           let t : State = handOver s a j in
-          agrees-mail k l s t (handOver-keeps k s a j g there empty jl) r over-else (butFirst p (l .mail .boxes)) (l .mail .hands ++ first p (l .mail .boxes)) (r .palms ++ (a ∷ []))
+          agrees-mail k l s t (handOver-keeps k s a j g there empty jl) r (unfold handOver in (wrote-within MAILED (wrote-poke (delist-wrote k s g j jl) HAND a (suc (dataOf s j))) refl)) (butFirst p (l .mail .boxes)) (l .mail .hands ++ first p (l .mail .boxes)) (r .mail .palms ++ (a ∷ []))
           (but-boxes ∙ map-same-on (boxAt s) (boxAt t) (without j (arrivals s)) over-box ∙ ap (map (boxAt t)) (sym over-list))
           over-palms
-          (ap₂ (λ (x y : List Message). x ++ y) (r .hands ∙ map-same-on (handAt s) (handAt t) (r .palms) over-hand) (first-box ∙ ap (λ (m : Message). m ∷ []) over-new)
-          ∙ sym (map-append (handAt t) (r .palms) (a ∷ [])))
+          (ap₂ (λ (x y : List Message). x ++ y) (r .mail .hands ∙ map-same-on (handAt s) (handAt t) (r .mail .palms) over-hand) (first-box ∙ ap (λ (m : Message). m ∷ []) over-new)
+          ∙ sym (map-append (handAt t) (r .mail .palms) (a ∷ [])))
 
     -- ---- it is dropped, with its data entry
     module _ (q : List ℕ) (w : Wiped (s PAYLOAD) q (dataOf s j)) where
@@ -520,18 +461,18 @@ module _ (k : Caps) (s : State) (l : Ledger) (g : Good k s) (r : Agrees k l s) (
       drop-box f o =
           let n = delist-left f o in
           let c : eqb (at s MAIL-DATA f - 1) (dataOf s j) ≡ false = ne-eqb (at s MAIL-DATA f - 1) (dataOf s j) (λ z. eqb-false f (mailOf s j) (n .1)
-          (held-once (k .datas) (s MAIL-DATA) (s HAND) (s DATA-FREE) (g .held) (dataOf s j) (dataOf-below k s g j jl) f (mailOf s j) (arrival-in k s g f (n .0)) (omega (arith, mailOf-below k s g j jl, g .sized .words 29 (lit< tt))) (omega (arith, arrival-data k s g f (n .0) .0)) (dataOf-is k s g j jl))) in
+          (held-once (k .datas) (s MAIL-DATA) (s HAND) (s DATA-FREE) (g .held) (dataOf s j) (dataOf-below k s g j jl) f (mailOf s j) (arrival-in k s g f (n .0)) (omega (arith, mailOf-below k s g j jl, g .sized .words MAIL-DATA (lit< tt))) (omega (arith, arrival-data k s g f (n .0) .0)) (dataOf-is k s g j jl))) in
           rw (other (s MAIL-OWNER) (mailOf s j) 0 f (n .1), other (s MAIL-DATA) (mailOf s j) 0 f (n .1))
           (message-same s (unfilled (delist s j) (dataOf s j) q) (actorId s (at s MAIL-OWNER f - 1)) (at s MAIL-DATA f - 1)
           (other (s SENDER) (dataOf s j) 0 (at s MAIL-DATA f - 1) c) (other (s LENGTH) (dataOf s j) 0 (at s MAIL-DATA f - 1) c) (w .apart (at s MAIL-DATA f - 1) c) (arrival-long k s g f (n .0)))
 
       -- what is in hands
-      drop-hand : (b : ℕ) → 0 < occurs b (r .palms) → handAt s b ≡ handAt (unfilled (delist s j) (dataOf s j) q) b
+      drop-hand : (b : ℕ) → 0 < occurs b (r .mail .palms) → handAt s b ≡ handAt (unfilled (delist s j) (dataOf s j) q) b
       unfolding delist pull poke with-col freeBit
       drop-hand b o =
-          let f = palm-full s (r .palms) (r .allPalms) b o in
+          let f = palm-full s (r .mail .palms) (r .mail .allPalms) b o in
           let c : eqb (at s HAND b - 1) (dataOf s j) ≡ false = ne-eqb (at s HAND b - 1) (dataOf s j) (λ z.
-          held-apart (k .datas) (s MAIL-DATA) (s HAND) (s DATA-FREE) (g .held) (dataOf s j) (dataOf-below k s g j jl) (mailOf s j) b (omega (arith, mailOf-below k s g j jl, g .sized .words 29 (lit< tt))) (palm-in k s g b f) (dataOf-is k s g j jl) (omega (arith, palm-data k s g b f .0))) in
+          held-apart (k .datas) (s MAIL-DATA) (s HAND) (s DATA-FREE) (g .held) (dataOf s j) (dataOf-below k s g j jl) (mailOf s j) b (omega (arith, mailOf-below k s g j jl, g .sized .words MAIL-DATA (lit< tt))) (palm-in k s g b f) (dataOf-is k s g j jl) (omega (arith, palm-data k s g b f .0))) in
           message-same s (unfilled (delist s j) (dataOf s j) q) (actorId s b) (at s HAND b - 1)
           (other (s SENDER) (dataOf s j) 0 (at s HAND b - 1) c) (other (s LENGTH) (dataOf s j) 0 (at s HAND b - 1) c) (w .apart (at s HAND b - 1) c) (palm-long k s g b f)
 
@@ -544,9 +485,9 @@ module _ (k : Caps) (s : State) (l : Ledger) (g : Good k s) (r : Agrees k l s) (
       drop-agrees : Agrees k (withMail l (mail (butFirst p (l .mail .boxes)) (l .mail .hands))) (unfilled (delist s j) (dataOf s j) q)
       drop-agrees =
           let t : State = unfilled (delist s j) (dataOf s j) q in
-          agrees-mail k l s t (drop-good k s g j jl q w) r (λ c e m. unfilled-else (delist s j) (dataOf s j) q c e ∙ delist-else s j c e) (butFirst p (l .mail .boxes)) (l .mail .hands) (r .palms)
+          agrees-mail k l s t (drop-good k s g j jl q w) r (wrote-within MAILED (wrote-unfilled (delist-wrote k s g j jl) (dataOf s j) q (w .long ∙ sym (delist-wrote k s g j jl .long PAYLOAD))) refl) (butFirst p (l .mail .boxes)) (l .mail .hands) (r .mail .palms)
           (but-boxes ∙ map-same-on (boxAt s) (boxAt t) (without j (arrivals s)) drop-box ∙ ap (map (boxAt t)) (sym drop-list))
-          (rw drop-palms (r .allPalms)) (r .hands ∙ map-same-on (handAt s) (handAt t) (r .palms) drop-hand)
+          (rw drop-palms (r .mail .allPalms)) (r .mail .hands ∙ map-same-on (handAt s) (handAt t) (r .mail .palms) drop-hand)
 
 -- ---- the first message of an actor is dropped
 -- the reckoning without the first message to an actor
@@ -571,7 +512,7 @@ box-own k s a g there e o =
 -- the i-th arrival stands among the arrivals
 arrival-in-list : (k : Caps) (s : State) → Good k s → (i : ℕ) → i < at s ARRIVED 0 → 0 < occurs (mailOf s i) (arrivals s)
 arrival-in-list k s g i h =
-    let t = length-take-le (at s ARRIVED 0) (s ARRIVAL) (omega (arith, g .head .1 .1, g .sized .words 30 (lit< tt))) in
+    let t = length-take-le (at s ARRIVED 0) (s ARRIVAL) (omega (arith, g .head .1 .1, g .sized .words ARRIVAL (lit< tt))) in
     occurs-pos (mailOf s i) (arrivals s) i (omega arith) (getD-take (at s ARRIVED 0) (s ARRIVAL) i 0 h)
 
 -- THE THEOREM of a drop
@@ -584,12 +525,12 @@ dropFirst-agrees k s l a g r there =
     (box-own k s a g there (mailOf s (firstOf s a)) (arrival-in-list k s g (firstOf s a) h) ∙ lowest-at (λ i. eqb (at s MAIL-OWNER (at s ARRIVAL i)) (suc a)) (at s ARRIVED 0) h)
     (λ i m. box-own k s a g there (mailOf s i) (arrival-in-list k s g i (omega arith)) ∙ lowest-first (λ i. eqb (at s MAIL-OWNER (at s ARRIVAL i)) (suc a)) (at s ARRIVED 0) i m)
     (wipe (s PAYLOAD) (dataOf s (firstOf s a))) (wipe-is k s (dataOf s (firstOf s a)) (g .sized) (dataOf-below k s g (firstOf s a) h))))
-    (λ q. rw (dropFirst-none s a q) (agrees-mail k l s s g r (λ c e m. refl) (butFirst (toId (actorId s a)) (l .mail .boxes)) (l .mail .hands) (r .palms)
-    (ap (butFirst (toId (actorId s a))) (r .boxes) ∙ but-map (toId (actorId s a)) (boxAt s) (arrivals s) ∙ ap (map (boxAt s)) (but-none (λ e. toId (actorId s a) (boxAt s e)) (arrivals s) (λ e o.
+    (λ q. rw (dropFirst-none s a q) (agrees-mail k l s s g r (wrote-still MAILED s) (butFirst (toId (actorId s a)) (l .mail .boxes)) (l .mail .hands) (r .mail .palms)
+    (ap (butFirst (toId (actorId s a))) (r .mail .boxes) ∙ but-map (toId (actorId s a)) (boxAt s) (arrivals s) ∙ ap (map (boxAt s)) (but-none (λ e. toId (actorId s a) (boxAt s e)) (arrivals s) (λ e o.
     box-own k s a g there e o ∙ ne-eqb (at s MAIL-OWNER e) (suc a) (λ z.
     let m = arrival-below k s g e o in
-    omega (arith, drop-none k s a g q, occurs-pos (suc a) (s MAIL-OWNER) e (omega (arith, g .sized .words 28 (lit< tt))) z)))))
-    (r .allPalms) (r .hands)))
+    omega (arith, drop-none k s a g q, occurs-pos (suc a) (s MAIL-OWNER) e (omega (arith, g .sized .words MAIL-OWNER (lit< tt))) z)))))
+    (r .mail .allPalms) (r .mail .hands)))
 
 -- m times the first that passes leaves
 unfoldable pub butFirsts : {A : Type 0} → ℕ → (A → Bool) → List A → List A
@@ -627,8 +568,8 @@ dropAll-steps : (m : ℕ) (k : Caps) (s : State) (l : Ledger) (a : ℕ) → Good
 unfolding dropAll butFirsts
 dropAll-steps zero k s l a g r there = r
 dropAll-steps (suc m) k s l a g r there =
-    let i : actorId (dropFirst s a) a ≡ actorId s a = ap (λ (c : List ℕ). idOf 64 (getD c a 0) a) (dropFirst-else s a AGE (refl, refl, refl, refl, refl, refl, refl, refl, refl)) in
-    let v : alive (dropFirst s a STATE) a ≡ true = ap (λ (c : List ℕ). alive c a) (dropFirst-else s a STATE (refl, refl, refl, refl, refl, refl, refl, refl, refl)) ∙ there in
+    let i : actorId (dropFirst s a) a ≡ actorId s a = ap (λ (c : List ℕ). idOf 64 (getD c a 0) a) (beside-dropFirst s a .cols AGE refl) in
+    let v : alive (dropFirst s a STATE) a ≡ true = ap (λ (c : List ℕ). alive c a) (beside-dropFirst s a .cols STATE refl) ∙ there in
     let l₁ : Ledger = withMail l (mail (butFirst (toId (actorId s a)) (l .mail .boxes)) (l .mail .hands)) in
     subst (λ (id : ℕ). Agrees k (withMail l (mail (butFirsts m (toId id) (butFirst (toId (actorId s a)) (l .mail .boxes))) (l .mail .hands))) (dropAll m (dropFirst s a) a)) i
     (dropAll-steps m k (dropFirst s a) l₁ a (dropFirst-keeps k s a g) (dropFirst-agrees k s l a g r there) v)
@@ -641,9 +582,9 @@ boxless id l = withMail l (mail (those (λ m. not (eqb (m .to) id)) (l .mail .bo
 pub dropAll-agrees : (k : Caps) (s : State) (l : Ledger) (a : ℕ) → Good k s → Agrees k l s → alive (s STATE) a ≡ true → Agrees k (boxless (actorId s a) l) (dropAll (at s ARRIVED 0) s a)
 dropAll-agrees k s l a g r there =
     let p = toId (actorId s a) in
-    let t = length-take-le (at s ARRIVED 0) (s ARRIVAL) (omega (arith, g .head .1 .1, g .sized .words 30 (lit< tt))) in
+    let t = length-take-le (at s ARRIVED 0) (s ARRIVAL) (omega (arith, g .head .1 .1, g .sized .words ARRIVAL (lit< tt))) in
     let n : length (those (toId (actorId s a)) (l .mail .boxes)) ≤ at s ARRIVED 0 =
-    omega (arith, t, ap length (those-keep (toId (actorId s a)) (l .mail .boxes)), length-keep-le (toId (actorId s a)) (l .mail .boxes), ap length (r .boxes), length-map (arrivals s) (boxAt s)) in
+    omega (arith, t, ap length (those-keep (toId (actorId s a)) (l .mail .boxes)), length-keep-le (toId (actorId s a)) (l .mail .boxes), ap length (r .mail .boxes), length-map (arrivals s) (boxAt s)) in
     subst (λ (b : List Message). Agrees k (withMail l (mail b (l .mail .hands))) (dropAll (at s ARRIVED 0) s a)) (butFirsts-all (toId (actorId s a)) (at s ARRIVED 0) (l .mail .boxes) n)
     (dropAll-steps (at s ARRIVED 0) k s l a g r there)
 
@@ -655,32 +596,13 @@ await-agrees k s l a sender class tag deadline g r run =
     let u : at s STATE a ≡ RUNS = flag-eq (at s STATE a) RUNS (g .runs a (omega (arith, g .head .0 .1)) ∙ rw (eq-eqb (runner s) (suc a) run)) in
     let x : getD (s STATE) a 0 ≡ 0 → ⊥ = λ e. omega (arith, u) in
     let y : WAITS ≡ 0 → ⊥ = λ e. omega arith in
-    record {
-      sizes = r .sizes;
-      clock = r .clock;
+    agrees-people (wrote-await (wrote-none s) a sender class tag deadline) r _ refl (record {
       running = rw (set-zero (s RUNNING) 0);
-      slots = r .slots;
-      allSlots = rw (alive-same (s STATE) a WAITS x y) (r .allSlots);
-      live = r .live;
-      wornSlots = exact-same (isWorn (s STATE) (s AGE)) (isWorn (set (s STATE) a WAITS) (s AGE)) (l .people .worn) (r .wornSlots) (worn-same (s STATE) (s AGE) a WAITS x y);
-      allBoxes = r .allBoxes;
-      boxes = r .boxes;
-      palms = r .palms;
-      allPalms = r .allPalms;
-      hands = r .hands;
-      allDatas = r .allDatas;
-      clocks = r .clocks;
-      allClocks = r .allClocks;
-      timers = r .timers;
-      wornClocks = r .wornClocks;
-      bonds = r .bonds;
-      allBonds = r .allBonds;
-      links = r .links;
-      eyes = r .eyes;
-      allEyes = r .allEyes;
-      monitors = r .monitors;
-      wornEyes = r .wornEyes;
-    }
+      slots = r .people .slots;
+      allSlots = rw (alive-same (s STATE) a WAITS x y) (r .people .allSlots);
+      live = r .people .live;
+      wornSlots = exact-same (isWorn (s STATE) (s AGE)) (isWorn (set (s STATE) a WAITS) (s AGE)) (l .people .worn) (r .people .wornSlots) (worn-same (s STATE) (s AGE) a WAITS x y);
+    })
 
 -- the reckoning's filter passes a message where the tables' does
 wanted-same : (k : Caps) (s : State) (a sender class tag : ℕ) → Good k s → alive (s STATE) a ≡ true → (i : ℕ) → i < at s ARRIVED 0 →
@@ -710,9 +632,9 @@ receiveBare-agrees sender class tag wait k s l a g r run empty =
 
 -- what receive enters once its tests are passed
 entered-receive : (sender class tag : ℕ) (wait : ℤ) (l : Ledger) (x : Received) → (x .no ≡ 0) ⊎ ((x .no ≡ 5) ⊎ (x .no ≡ 6)) →
-    entered (record { call = receive sender class tag wait; answer = sayReceived x }) l
+    entered (record { call = op (receive sender class tag wait); answer = sayReceived x }) l
     ≡ cond (eqb (x .no) 0) (grasped (wanted (l .people .running) sender class tag) (release l)) (cond (eqb (x .no) 5) (release l) (runs 0 (release l)))
-unfolding entered done unmet
+unfolding entered
 entered-receive sender class tag wait l x (inl e) = rw e
 entered-receive sender class tag wait l x (inr (inl e)) = rw e
 entered-receive sender class tag wait l x (inr (inr e)) = rw e
@@ -724,16 +646,10 @@ bare-number sender class tag wait a s =
     split (ltb (firstMatch s a sender class tag) (head s ARRIVED)) (λ q. inl (rw q))
     (λ q. split (notAtAll wait) (λ b. inr (inl (rw (q, b)))) (λ b. inr (inr (rw (q, b)))))
 
--- what receive does once its tests are passed
-receive-passed : (sender class tag : ℕ) (wait : ℤ) (k : Caps) (s : State) → eqb (runner s) 0 ≡ false → legal sender class tag ≡ true → badWait wait ≡ false →
-    receiveRule sender class tag wait k s ≡ receiveBare sender class tag wait (runner s - 1) (letGo s (runner s - 1))
-unfolding receiveRule
-receive-passed sender class tag wait k s q b c = rw (q, b, c)
-
 -- once its tests are passed
 received-agrees : (sender class tag : ℕ) (wait : ℤ) (k : Caps) (s : State) (l : Ledger) → Good k s → Agrees k l s → eqb (runner s) 0 ≡ false →
     let o = receiveBare sender class tag wait (runner s - 1) (letGo s (runner s - 1)) in
-    Agrees k (entered (record { call = receive sender class tag wait; answer = sayReceived (o .ans) }) l) (o .state)
+    Agrees k (entered (record { call = op (receive sender class tag wait); answer = sayReceived (o .ans) }) l) (o .state)
 unfolding release
 received-agrees sender class tag wait k s l g r q =
     let a = runner s - 1 in
@@ -741,18 +657,11 @@ received-agrees sender class tag wait k s l g r q =
     let b : runner s - 1 < k .actors = omega (arith, g .head .0 .1) in
     rw (entered-receive sender class tag wait l (receiveBare sender class tag wait (runner s - 1) (letGo s (runner s - 1)) .ans) (bare-number sender class tag wait (runner s - 1) (letGo s (runner s - 1))))
     (receiveBare-agrees sender class tag wait k (letGo s a) (release l) a (letGo-keeps k s a g b) (letGo-agrees k s l g r q)
-    (ap (λ (c : List ℕ). getD c 0 0) (letGo-else s a RUNNING (refl, refl, refl, refl, refl, refl, refl, refl, refl) refl) ∙ omega arith) (letGo-empty k s a g b))
+    (ap (λ (c : List ℕ). getD c 0 0) (wrote-letGo s a .cols RUNNING refl) ∙ omega arith) (letGo-empty k s a g b))
 
 -- THE THEOREM of receive, and the reckoning
-pub receive-agrees : (sender class tag : ℕ) (wait : ℤ) (k : Caps) (s : State) (l : Ledger) → Good k s → Agrees k l s →
-    Agrees k (entered (record { call = receive sender class tag wait; answer = sayReceived (receiveRule sender class tag wait k s .ans) }) l) (receiveRule sender class tag wait k s .state)
-unfolding receiveRule entered
-receive-agrees sender class tag wait k s l g r =
-    split (eqb (runner s) 0) (λ q. rw q r)
-    (λ q. split (legal sender class tag)
-    (λ b. split (badWait wait) (λ c. rw (q, b, c) r)
-    (λ c. rw (receive-passed sender class tag wait k s q b c) (received-agrees sender class tag wait k s l g r q)))
-    (λ b. rw (q, b) r))
+pub receive-agrees : (sender class tag : ℕ) (wait : ℤ) → Agreed (receive sender class tag wait)
+receive-agrees sender class tag wait k s l g r p = received-agrees sender class tag wait k s l g r (p .0)
 
 -- ---- what the runtime itself sends, in the reckoning's words
 -- a tick
@@ -769,9 +678,9 @@ exit-says me reason watch to = refl
 pub clear-agrees : (k : Caps) (s : State) (l : Ledger) (a : ℕ) → Good k s → Agrees k l s → alive (s STATE) a ≡ true → Agrees k (cleared (actorId s a) l) (clear s a)
 unfolding cleared
 clear-agrees k s l a g r there =
-    let n : a < k .actors = omega (arith, alive-below (s STATE) a there, g .sized .words 18 (lit< tt)) in
-    let i : actorId (letGo s a) a ≡ actorId s a = ap (λ (c : List ℕ). idOf 64 (getD c a 0) a) (letGo-else s a AGE (refl, refl, refl, refl, refl, refl, refl, refl, refl) refl) in
-    let v : alive (letGo s a STATE) a ≡ true = ap (λ (c : List ℕ). alive c a) (letGo-else s a STATE (refl, refl, refl, refl, refl, refl, refl, refl, refl) refl) ∙ there in
+    let n : a < k .actors = omega (arith, alive-below (s STATE) a there, g .sized .words STATE (lit< tt)) in
+    let i : actorId (letGo s a) a ≡ actorId s a = ap (λ (c : List ℕ). idOf 64 (getD c a 0) a) (wrote-letGo s a .cols AGE refl) in
+    let v : alive (letGo s a STATE) a ≡ true = ap (λ (c : List ℕ). alive c a) (wrote-letGo s a .cols STATE refl) ∙ there in
     let m : at (letGo s a) ARRIVED 0 ≡ at s ARRIVED 0 = ap (λ (c : List ℕ). getD c 0 0) (letGo-arrived s a) in
     subst (λ (m : ℕ). Agrees k (boxless (actorId s a) (handless (actorId s a) l)) (dropAll m (letGo s a) a)) m
     (subst (λ (id : ℕ). Agrees k (boxless id (handless (actorId s a) l)) (dropAll (at (letGo s a) ARRIVED 0) (letGo s a) a)) i

@@ -17,7 +17,6 @@ use Rattle.tables.specs.declared.Caps.{Caps}
 use Rattle.tables.specs.Columns.{CLOCK, DUE, INTERVAL, TIMER-AGE, TIMER-OWNER}
 use Rattle.tables.specs.State.{InRange, State, at, head, with-col, poke}
 use Rattle.tables.proofs.ViewLaws.{Sized}
-use Rattle.tables.proofs.ActionLaws.{sized-poke}
 use Rattle.rules.specs.Rule.{Holds}
 use Rattle.rules.specs.Terms.{timerId}
 use Rattle.rules.specs.Sound.{timerRule}
@@ -29,7 +28,11 @@ use Rattle.rules.proofs.ColumnLaws.{each-set, other}
 use Rattle.rules.proofs.LedgerLaws.{first-map, map-same-on, some-map, some-no, some-yes}
 use Rattle.rules.proofs.TieLaws.{id-eqb}
 use Rattle.rules.proofs.LeastLaws.{Least, before, first-none, first-one, first-same-on, least-is, other-before}
-use Rattle.rules.proofs.Ties.{apart, disarm-keeps, timerColumn, timers-good}
+use Rattle.rules.proofs.Frame.{wrote-none, wrote-poke, wrote-within}
+use Rattle.rules.proofs.Part
+use Rattle.rules.proofs.Patch.{_by_also_, done, patch}
+use Rattle.rules.proofs.Frames.{TIMED}
+use Rattle.rules.proofs.Ties.{disarm-keeps}
 use Rattle.rules.proofs.TiesAgree.{clock-used, disarm-agree, timers-agree}
 
 -- ---- soundness
@@ -37,12 +40,11 @@ use Rattle.rules.proofs.TiesAgree.{clock-used, disarm-agree, timers-agr
 pub redue-keeps : (k : Caps) (s : State) (i t : ℕ) → Good k s → i < k .timers → (at s TIMER-OWNER i ≡ 0 → ⊥) → t ≤ 2 ^ 62 + 2 ^ 32 → Good k (poke s DUE i t)
 unfolding poke with-col
 redue-keeps k s i t g l u h =
-    timers-good k s (poke s DUE i t) (λ c q. rw (apart timerColumn c 40 refl q)) (sized-poke k s DUE i t (g .sized))
+    patch k g (wrote-poke (wrote-none s) DUE i t) (Part.timers by
     (λ j m. each-set (λ j. Holds (timerRule (poke s DUE i t) j)) i j
-    (rw (getD-set-same (s DUE) i t 0 (omega (arith, g .sized .words 40 (lit< tt))))
+    (rw (getD-set-same (s DUE) i t 0 (omega (arith, g .sized .words DUE (lit< tt))))
     (g .timers i l .0, ((λ z. absurd (u z)), (λ z. (g .timers i l .1 .1 z .0, (h, g .timers i l .1 .1 z .1 .1))))))
-    (λ q. rw (other (s DUE) i t j q) (g .timers j m)))
-    g
+    (λ q. rw (other (s DUE) i t j q) (g .timers j m))) also done) refl
 
 -- a timer that fires
 pub rearm-keeps : (k : Caps) (s : State) (i : ℕ) → Good k s → i < k .timers → (at s TIMER-OWNER i ≡ 0 → ⊥) → Good k (rearm s i)
@@ -73,16 +75,16 @@ module _ (k : Caps) (l : Ledger) (s : State) (z : Sized k s) (v : InRange k) (a 
       (poke s DUE i (c + at s INTERVAL i))
   unfolding poke with-col
   redue-agree i c m =
-      timers-agree k l s (poke s DUE i (c + at s INTERVAL i)) _ (a .clocks) (λ c q. rw (apart timerColumn c 40 refl q)) a refl (a .allClocks)
-      (rw (a .timers) (map-map (λ u. cond (eqb (u .id) (timerId s i)) (timer (u .id) (u .owner) (c + u .interval) (u .interval)) u) (timerAt s) (a .clocks)
-      ∙ map-same-on (λ e. cond (eqb (timerId s e) (timerId s i)) (timer (timerId s e) (timerAt s e .owner) (c + at s INTERVAL e) (at s INTERVAL e)) (timerAt s e)) (timerAt (poke s DUE i (c + at s INTERVAL i))) (a .clocks) same))
-      (a .wornClocks)
+      timers-agree k l s (poke s DUE i (c + at s INTERVAL i)) _ (a .time .clocks) (wrote-within TIMED (wrote-poke (wrote-none s) DUE i _) refl) a refl (a .time .allClocks)
+      (rw (a .time .timers) (map-map (λ u. cond (eqb (u .id) (timerId s i)) (timer (u .id) (u .owner) (c + u .interval) (u .interval)) u) (timerAt s) (a .time .clocks)
+      ∙ map-same-on (λ e. cond (eqb (timerId s e) (timerId s i)) (timer (timerId s e) (timerAt s e .owner) (c + at s INTERVAL e) (at s INTERVAL e)) (timerAt s e)) (timerAt (poke s DUE i (c + at s INTERVAL i))) (a .time .clocks) same))
+      (a .time .wornClocks)
     where
-      same : (e : ℕ) → 0 < occurs e (a .clocks) → cond (eqb (timerId s e) (timerId s i)) (timer (timerId s e) (timerAt s e .owner) (c + at s INTERVAL e) (at s INTERVAL e)) (timerAt s e) ≡ timerAt (poke s DUE i (c + at s INTERVAL i)) e
+      same : (e : ℕ) → 0 < occurs e (a .time .clocks) → cond (eqb (timerId s e) (timerId s i)) (timer (timerId s e) (timerAt s e .owner) (c + at s INTERVAL e) (at s INTERVAL e)) (timerAt s e) ≡ timerAt (poke s DUE i (c + at s INTERVAL i)) e
       same e o =
           rw (id-eqb 64 (s TIMER-AGE) e i (omega (arith, v .fewTimers, clock-used k l s s z v a e o .1)) (omega (arith, v .fewTimers)))
           (each-set (λ e. cond (eqb e i) (timer (timerId s e) (timerAt s e .owner) (c + at s INTERVAL e) (at s INTERVAL e)) (timerAt s e) ≡ timerAt (poke s DUE i (c + at s INTERVAL i)) e) i e
-          (rw (eq-eqb i i refl, getD-set-same (s DUE) i (c + at s INTERVAL i) 0 (omega (arith, z .words 40 (lit< tt)))))
+          (rw (eq-eqb i i refl, getD-set-same (s DUE) i (c + at s INTERVAL i) 0 (omega (arith, z .words DUE (lit< tt)))))
           (λ q. rw (q, other (s DUE) i (c + at s INTERVAL i) e q)))
 
   -- "A firing one-shot ends. A periodic one is next due at clock + interval"
@@ -92,7 +94,7 @@ module _ (k : Caps) (l : Ledger) (s : State) (z : Sized k s) (v : InRange k) (a 
       split (eqb (at s INTERVAL i) 0) (λ q. rw q (disarm-agree k l s i z v a m))
       (λ q. rw q
       (subst (λ (c : ℕ). Agrees k (withTime l (time (l .time .clock) (map (λ u. cond (eqb (u .id) (timerId s i)) (timer (u .id) (u .owner) (c + u .interval) (u .interval)) u) (l .time .timers)) (l .time .worn)))
-      (poke s DUE i (head s CLOCK + at s INTERVAL i))) (sym (a .clock)) (redue-agree i (head s CLOCK) m)))
+      (poke s DUE i (head s CLOCK + at s INTERVAL i))) (sym (a .time .clock)) (redue-agree i (head s CLOCK) m)))
 
   -- ---- the soonest
   -- of two timers, the tables' and the reckoning's say which comes before
@@ -103,27 +105,27 @@ module _ (k : Caps) (l : Ledger) (s : State) (z : Sized k s) (v : InRange k) (a 
       ap₂ (λ (i : ℕ) (j : ℕ). ltb (at s DUE d) (at s DUE e) || (eqb (at s DUE d) (at s DUE e) && ltb i j)) x y
 
   -- a timer of the list is due where its time has come
-  due-same : (e : ℕ) → 0 < occurs e (a .clocks) → due s TIMER-OWNER DUE (head s CLOCK) e ≡ leb (at s DUE e) (head s CLOCK)
+  due-same : (e : ℕ) → 0 < occurs e (a .time .clocks) → due s TIMER-OWNER DUE (head s CLOCK) e ≡ leb (at s DUE e) (head s CLOCK)
   due-same e o = rw (ne-eqb (at s TIMER-OWNER e) 0 (clock-used k l s s z v a e o .0))
 
   module _ (i : ℕ) (is : i ≡ earliest s TIMER-OWNER DUE (head s CLOCK) (k .timers)) where
     -- it is in the list
-    least-in : (i ≡ 0 → ⊥) → 0 < occurs (i - 1) (a .clocks)
-    least-in n = rw (a .allClocks (i - 1), ne-eqb (at s TIMER-OWNER (i - 1)) 0 (least-due k s i is n .1)) (omega arith)
+    least-in : (i ≡ 0 → ⊥) → 0 < occurs (i - 1) (a .time .clocks)
+    least-in n = rw (a .time .allClocks (i - 1), ne-eqb (at s TIMER-OWNER (i - 1)) 0 (least-due k s i is n .1)) (omega arith)
 
     -- a due timer that comes before e
     abbrev ahead : ℕ → ℕ → Bool
     ahead e d = leb (at s DUE d) (head s CLOCK) && sooner (timerAt s d) (timerAt s e)
 
     -- a timer of the list is the soonest exactly where it is the least
-    soonest-is : (i ≡ 0 → ⊥) → (e : ℕ) → 0 < occurs e (a .clocks) → leb (at s DUE e) (head s CLOCK) && not (some (ahead e) (a .clocks)) ≡ eqb e (i - 1)
+    soonest-is : (i ≡ 0 → ⊥) → (e : ℕ) → 0 < occurs e (a .time .clocks) → leb (at s DUE e) (head s CLOCK) && not (some (ahead e) (a .time .clocks)) ≡ eqb e (i - 1)
     soonest-is n e o =
         let m = clock-used k l s s z v a e o .1 in
         let c = least-due k s i is n in
         split (eqb e (i - 1))
         (λ q.
         let y : e ≡ i - 1 = eqb-true e (i - 1) q in
-        let w : some (ahead e) (a .clocks) ≡ false = some-no (ahead e) (a .clocks) (λ d p.
+        let w : some (ahead e) (a .time .clocks) ≡ false = some-no (ahead e) (a .time .clocks) (λ d p.
         split (leb (at s DUE d) (head s CLOCK))
         (λ r. rw r (sooner-same d e (clock-used k l s s z v a d p .1) m ∙ rw y (least-of k s i is .first n d (clock-used k l s s z v a d p .1) (due-same d p ∙ r))))
         (λ r. rw r)) in
@@ -131,26 +133,26 @@ module _ (k : Caps) (l : Ledger) (s : State) (z : Sized k s) (v : InRange k) (a 
         (λ q. split (leb (at s DUE e) (head s CLOCK))
         (λ r.
         let x : before (at s DUE (i - 1)) (at s DUE e) (i - 1) e ≡ true = other-before (at s DUE e) (at s DUE (i - 1)) e (i - 1) (eqb-false e (i - 1) q) (least-of k s i is .first n e m (due-same e o ∙ r)) in
-        let w : some (ahead e) (a .clocks) ≡ true = some-yes (ahead e) (a .clocks) (i - 1) (least-in n) (and-true (leb (at s DUE (i - 1)) (head s CLOCK)) (sooner (timerAt s (i - 1)) (timerAt s e)) (c .2) (sooner-same (i - 1) e (c .0) m ∙ x)) in
+        let w : some (ahead e) (a .time .clocks) ≡ true = some-yes (ahead e) (a .time .clocks) (i - 1) (least-in n) (and-true (leb (at s DUE (i - 1)) (head s CLOCK)) (sooner (timerAt s (i - 1)) (timerAt s e)) (c .2) (sooner-same (i - 1) e (c .0) m ∙ x)) in
         rw (q, r, w))
         (λ r. rw (q, r)))
 
     -- the reckoning's test on the list of entries
-    soonest-map : soonest (l .time .clock) (l .time .timers) ≡ map (timerAt s) (first (λ e. leb (at s DUE e) (head s CLOCK) && not (some (ahead e) (a .clocks))) (a .clocks))
+    soonest-map : soonest (l .time .clock) (l .time .timers) ≡ map (timerAt s) (first (λ e. leb (at s DUE e) (head s CLOCK) && not (some (ahead e) (a .time .clocks))) (a .time .clocks))
     unfolding soonest
     soonest-map =
-        rw (a .clock, a .timers)
-        (first-map (λ t. leb (t .due) (head s CLOCK) && not (some (λ u. leb (u .due) (head s CLOCK) && sooner u t) (map (timerAt s) (a .clocks)))) (timerAt s) (a .clocks)
-        ∙ ap (map (timerAt s)) (first-same-on (λ e. leb (at s DUE e) (head s CLOCK) && not (some (λ u. leb (u .due) (head s CLOCK) && sooner u (timerAt s e)) (map (timerAt s) (a .clocks)))) (λ e. leb (at s DUE e) (head s CLOCK) && not (some (ahead e) (a .clocks))) (a .clocks)
-        (λ e o. rw (some-map (λ u. leb (u .due) (head s CLOCK) && sooner u (timerAt s e)) (timerAt s) (a .clocks)))))
+        rw (a .time .clock, a .time .timers)
+        (first-map (λ t. leb (t .due) (head s CLOCK) && not (some (λ u. leb (u .due) (head s CLOCK) && sooner u t) (map (timerAt s) (a .time .clocks)))) (timerAt s) (a .time .clocks)
+        ∙ ap (map (timerAt s)) (first-same-on (λ e. leb (at s DUE e) (head s CLOCK) && not (some (λ u. leb (u .due) (head s CLOCK) && sooner u (timerAt s e)) (map (timerAt s) (a .time .clocks)))) (λ e. leb (at s DUE e) (head s CLOCK) && not (some (ahead e) (a .time .clocks))) (a .time .clocks)
+        (λ e o. rw (some-map (λ u. leb (u .due) (head s CLOCK) && sooner u (timerAt s e)) (timerAt s) (a .time .clocks)))))
 
     -- "due timers .. by due time, equal ones by lower slot": the same timer on both sides
     pub soonest-some : (i ≡ 0 → ⊥) → soonest (l .time .clock) (l .time .timers) ≡ timerAt s (i - 1) ∷ []
     soonest-some n =
-        soonest-map ∙ ap (map (timerAt s)) (first-same-on (λ e. leb (at s DUE e) (head s CLOCK) && not (some (ahead e) (a .clocks))) (λ e. eqb e (i - 1)) (a .clocks) (soonest-is n) ∙ first-one (i - 1) (a .clocks) (least-in n))
+        soonest-map ∙ ap (map (timerAt s)) (first-same-on (λ e. leb (at s DUE e) (head s CLOCK) && not (some (ahead e) (a .time .clocks))) (λ e. eqb e (i - 1)) (a .time .clocks) (soonest-is n) ∙ first-one (i - 1) (a .time .clocks) (least-in n))
 
     -- or none on both
     pub soonest-none : i ≡ 0 → soonest (l .time .clock) (l .time .timers) ≡ []
     soonest-none n =
-        soonest-map ∙ ap (map (timerAt s)) (first-same-on (λ e. leb (at s DUE e) (head s CLOCK) && not (some (ahead e) (a .clocks))) (λ e. false) (a .clocks)
-        (λ e o. rw (sym (due-same e o) ∙ least-of k s i is .none n e (clock-used k l s s z v a e o .1))) ∙ first-none (a .clocks))
+        soonest-map ∙ ap (map (timerAt s)) (first-same-on (λ e. leb (at s DUE e) (head s CLOCK) && not (some (ahead e) (a .time .clocks))) (λ e. false) (a .time .clocks)
+        (λ e o. rw (sym (due-same e o) ∙ least-of k s i is .none n e (clock-used k l s s z v a e o .1))) ∙ first-none (a .time .clocks))

@@ -15,24 +15,29 @@ use Rattle.pools.specs.Slot.{ageOf, slotOf, usable}
 use Rattle.pools.proofs.PoolLaws.{lowest-at}
 use Rattle.pools.proofs.ListLaws.{occurs-pos}
 use Rattle.pools.proofs.SlotLaws.{of-usable}
+use Rattle.ledger.specs.Call.Op.{spawn, next, yield}
 use Rattle.tables.specs.declared.Caps.{Caps}
-use Rattle.tables.specs.Columns.{AGE, DEADLINE, HAND, MAIL-DATA, MAIL-FREE, MAIL-OWNER, PRIORITY, QUEUE, QUEUED, REASON, RUNNING, STATE, WANT-CLASS, WANT-SENDER, WANT-TAG}
+use Rattle.tables.specs.Columns.{AGE, DEADLINE, MAIL-DATA, MAIL-FREE, MAIL-OWNER, PRIORITY, QUEUE, QUEUED, REASON, REST, RUNNING, STATE, WANT-CLASS, WANT-SENDER, WANT-TAG}
 use Rattle.tables.specs.State.{State, at, head, with-col, poke, size}
 use Rattle.tables.specs.Action.{push, pull}
-use Rattle.tables.proofs.ActionLaws.{sized-poke, sized-pull, sized-push}
 use Rattle.rules.specs.Rule.{both, eq, Holds, imp, is}
 use Rattle.rules.specs.Terms.{FREE, OLDEST, RUNNABLE, RUNS, WAITS, alive, awaits, runner}
 use Rattle.rules.specs.Sound.{actorRule, endsRule, idleRule, pairRule, runRule, senderRule, waitRule}
 use Rattle.rules.specs.Actions.{halt, ready, unwait, wake}
-use Rattle.rules.specs.Calls.{firstHead, nextRule, reportRule, run, shownRule, slotFor, spawnRule, yieldRule}
-use Rattle.rules.specs.Run.{showRule}
+use Rattle.rules.specs.Calls.{firstHead, run, slotFor}
+use Rattle.rules.proofs.Claims.{Keeps}
+use Rattle.rules.proofs.Frame.{wrote-none, wrote-poke}
+use Rattle.rules.proofs.Frames.{wrote-ready, wrote-run, wrote-unwait}
 use Rattle.rules.proofs.Good.{Good}
-use Rattle.rules.proofs.ColumnLaws.{Listed, Once, alive-grows, alive-same, each-set, listed-at, listed-joins, listed-leaves, listed-room, once-joins, once-leaves, other, set-zero, spare-same}
+use Rattle.rules.proofs.GuardLaws.{held}
+use Rattle.rules.proofs.Part
+use Rattle.rules.proofs.Patch.{_by_also_, done, patch, patch-living}
+use Rattle.rules.proofs.ColumnLaws.{Listed, Once, alive-grows, alive-same, each-set, listed-at, listed-joins, listed-leaves, listed-room, once-joins, once-leaves, other, set-zero}
 use Rattle.rules.proofs.LedgerLaws.{runner-runs}
 
 module _ (k : Caps) (s : State) (g : Good k s) where
   -- a word column has its size
-  pub col : (c : ℕ) → T (ltb c 42) → length (s c) ≡ size k c
+  pub col : (c : ℕ) → T (ltb c REST) → length (s c) ≡ size k c
   col c t = g .sized .words c (lit< t)
 
   -- a slot that is not runnable leaves room in the queue
@@ -70,44 +75,29 @@ wake-keeps k s a reason g l u r =
     let w : alive (set (s STATE) a RUNNABLE) ≡ alive (s STATE) = alive-same (s STATE) a RUNNABLE (λ e. omega (arith, u)) (λ e. omega arith) in
     let is : getD (set (s STATE) a RUNNABLE) a 0 ≡ RUNNABLE = getD-set-same (s STATE) a RUNNABLE 0 (omega (arith, col k s g STATE tt)) in
     let why : getD (set (s REASON) a reason) a 0 ≡ reason = getD-set-same (s REASON) a reason 0 (omega (arith, col k s g REASON tt)) in
-    record {
-      range = g .range;
-      sized = sized-push k _ QUEUE QUEUED a (sized-poke k _ REASON a reason (sized-poke k _ STATE a RUNNABLE (sized-poke k _ DEADLINE a 0 (sized-poke k _ WANT-TAG a 0 (sized-poke k _ WANT-CLASS a 0 (sized-poke k s WANT-SENDER a 0 (g .sized)))))));
-      caps = g .caps;
-      head = rw (one-more k s g) (g .head .0, (omega arith, g .head .1 .1));
-      spare = spare-same s (wake s a reason) (refl, refl, refl, refl, refl, refl) (g .spare);
-      mailBits = g .mailBits;
-      dataBits = g .dataBits;
-      actors = λ b h. each-set (λ b. Holds (actorRule k (wake s a reason) b)) a b
-          (rw (is, why) ((omega arith, (g .actors a l .0 .1 .0, r)), ((g .actors a l .1 .0 .0, λ e. absurd (omega (arith, u, g .actors a l .1 .0 .1 e))), g .actors a l .1 .1)))
-          (λ q. rw (other (s STATE) a RUNNABLE b q, other (s REASON) a reason b q) (g .actors b h));
-      idle = λ b h. each-set (λ b. Holds (idleRule (wake s a reason) b)) a b
-          (rw (is, set-zero (s WANT-SENDER) a, set-zero (s WANT-CLASS) a, set-zero (s WANT-TAG) a, set-zero (s DEADLINE) a)
-          (λ e. absurd (omega arith), (λ e. absurd (e refl), λ e. ((refl, refl), (refl, refl)))))
-          (λ q. rw (other (s STATE) a RUNNABLE b q, other (s REASON) a reason b q, other (s WANT-SENDER) a 0 b q, other (s WANT-CLASS) a 0 b q, other (s WANT-TAG) a 0 b q, other (s DEADLINE) a 0 b q) (g .idle b h));
-      waits = λ b h. each-set (λ b. Holds (waitRule (wake s a reason) b)) a b
-          (rw (set-zero (s WANT-SENDER) a, set-zero (s WANT-CLASS) a, set-zero (s WANT-TAG) a, set-zero (s DEADLINE) a)
-          ((omega arith, omega arith), ((omega arith, λ e. absurd (omega arith)), λ e. absurd (e refl))))
-          (λ q. rw (other (s WANT-SENDER) a 0 b q, other (s WANT-CLASS) a 0 b q, other (s WANT-TAG) a 0 b q, other (s DEADLINE) a 0 b q) (g .waits b h));
-      runs = λ b h. each-set (λ b. Holds (runRule (wake s a reason) b)) a b
-          (rw is (rw u at (g .runs a l)))
-          (λ q. rw (other (s STATE) a RUNNABLE b q) (g .runs b h));
-      queue = rw (one-more k s g) (queue-up k s g a l (rw u));
-      once = rw (one-more k s g) (once-up k s g a l (rw u));
-      mails = rw w (g .mails);
-      arrivals = g .arrivals;
-      arrived = g .arrived;
-      filters = λ e h p. split (eqb (at s MAIL-OWNER e - 1) a)
-          (λ q. absurd (let z : getD (set (s STATE) a RUNNABLE) a 0 ≡ WAITS = rw (eqb-true (at s MAIL-OWNER e - 1) a q) at (p .1) in omega (arith, is)))
-          (λ q. rw (other (s WANT-SENDER) a 0 (at s MAIL-OWNER e - 1) q, other (s WANT-CLASS) a 0 (at s MAIL-OWNER e - 1) q, other (s WANT-TAG) a 0 (at s MAIL-OWNER e - 1) q)
-          (g .filters e h (p .0, rw (other (s STATE) a RUNNABLE (at s MAIL-OWNER e - 1) q) at (p .1))));
-      datas = g .datas;
-      held = g .held;
-      links = rw w (g .links);
-      pairs = g .pairs;
-      monitors = rw w (g .monitors);
-      timers = rw w (g .timers);
-    }
+    patch-living k g (wrote-ready (wrote-unwait (wrote-none s) a) a reason) (
+    Part.head by (rw (one-more k s g) (g .head .0, (omega arith, g .head .1 .1))) also
+    Part.actors by (λ b h. each-set (λ b. Holds (actorRule k (wake s a reason) b)) a b
+    (rw (is, why) ((omega arith, (g .actors a l .0 .1 .0, r)), ((g .actors a l .1 .0 .0, λ e. absurd (omega (arith, u, g .actors a l .1 .0 .1 e))), g .actors a l .1 .1)))
+    (λ q. rw (other (s STATE) a RUNNABLE b q, other (s REASON) a reason b q) (g .actors b h))) also
+    Part.idle by (λ b h. each-set (λ b. Holds (idleRule (wake s a reason) b)) a b
+    (rw (is, set-zero (s WANT-SENDER) a, set-zero (s WANT-CLASS) a, set-zero (s WANT-TAG) a, set-zero (s DEADLINE) a)
+    (λ e. absurd (omega arith), (λ e. absurd (e refl), λ e. ((refl, refl), (refl, refl)))))
+    (λ q. rw (other (s STATE) a RUNNABLE b q, other (s REASON) a reason b q, other (s WANT-SENDER) a 0 b q, other (s WANT-CLASS) a 0 b q, other (s WANT-TAG) a 0 b q, other (s DEADLINE) a 0 b q) (g .idle b h))) also
+    Part.waits by (λ b h. each-set (λ b. Holds (waitRule (wake s a reason) b)) a b
+    (rw (set-zero (s WANT-SENDER) a, set-zero (s WANT-CLASS) a, set-zero (s WANT-TAG) a, set-zero (s DEADLINE) a)
+    ((omega arith, omega arith), ((omega arith, λ e. absurd (omega arith)), λ e. absurd (e refl))))
+    (λ q. rw (other (s WANT-SENDER) a 0 b q, other (s WANT-CLASS) a 0 b q, other (s WANT-TAG) a 0 b q, other (s DEADLINE) a 0 b q) (g .waits b h))) also
+    Part.runs by (λ b h. each-set (λ b. Holds (runRule (wake s a reason) b)) a b
+    (rw is (rw u at (g .runs a l)))
+    (λ q. rw (other (s STATE) a RUNNABLE b q) (g .runs b h))) also
+    Part.queue by (rw (one-more k s g) (queue-up k s g a l (rw u))) also
+    Part.once by (rw (one-more k s g) (once-up k s g a l (rw u))) also
+    Part.filters by (λ e h p. split (eqb (at s MAIL-OWNER e - 1) a)
+    (λ q. absurd (let z : getD (set (s STATE) a RUNNABLE) a 0 ≡ WAITS = rw (eqb-true (at s MAIL-OWNER e - 1) a q) at (p .1) in omega (arith, is)))
+    (λ q. rw (other (s WANT-SENDER) a 0 (at s MAIL-OWNER e - 1) q, other (s WANT-CLASS) a 0 (at s MAIL-OWNER e - 1) q, other (s WANT-TAG) a 0 (at s MAIL-OWNER e - 1) q)
+    (g .filters e h (p .0, rw (other (s STATE) a RUNNABLE (at s MAIL-OWNER e - 1) q) at (p .1))))) also
+    done) w refl
 
 -- ---- spawn
 -- the ends of a link or monitor live on once slot a is alive
@@ -140,52 +130,37 @@ born-keeps k s a priority g l u o r =
     let why : getD (set (s REASON) a 0) a 0 ≡ 0 = set-zero (s REASON) a in
     let age : getD (set (s AGE) a (at s AGE a + 1)) a 0 ≡ at s AGE a + 1 = getD-set-same (s AGE) a (at s AGE a + 1) 0 (omega (arith, col k s g AGE tt)) in
     let level : getD (set (s PRIORITY) a priority) a 0 ≡ priority = getD-set-same (s PRIORITY) a priority 0 (omega (arith, col k s g PRIORITY tt)) in
-    record {
-      range = g .range;
-      sized = sized-push k _ QUEUE QUEUED a (sized-poke k _ REASON a 0 (sized-poke k _ STATE a RUNNABLE (sized-poke k _ PRIORITY a priority (sized-poke k s AGE a (at s AGE a + 1) (g .sized)))));
-      caps = g .caps;
-      head = rw (one-more k s g) (g .head .0, (omega arith, g .head .1 .1));
-      spare = spare-same s t (refl, refl, refl, refl, refl, refl) (g .spare);
-      mailBits = g .mailBits;
-      dataBits = g .dataBits;
-      actors = λ b h. each-set (λ b. Holds (actorRule k t b)) a b
-          (rw (is, why, age, level) ((omega arith, (r, omega arith)), ((omega arith, λ e. absurd (omega arith)), g .actors a l .1 .1)))
-          (λ q. rw (other (s STATE) a RUNNABLE b q, other (s REASON) a 0 b q, other (s AGE) a (at s AGE a + 1) b q, other (s PRIORITY) a priority b q) (g .actors b h));
-      idle = λ b h. each-set (λ b. Holds (idleRule t b)) a b
-          (rw is (λ e. absurd (omega arith), (λ e. absurd (e refl), λ e. g .idle a l .1 .1 (λ z. omega (arith, u)))))
-          (λ q. rw (other (s STATE) a RUNNABLE b q, other (s REASON) a 0 b q, other (s PRIORITY) a priority b q) (g .idle b h));
-      waits = g .waits;
-      runs = λ b h. each-set (λ b. Holds (runRule t b)) a b
-          (rw is (rw u at (g .runs a l)))
-          (λ q. rw (other (s STATE) a RUNNABLE b q) (g .runs b h));
-      queue = rw (one-more k s g) (queue-up k s g a l (rw u));
-      once = rw (one-more k s g) (once-up k s g a l (rw u));
-      mails = λ e h. (g .mails e h .0, λ p. let c = g .mails e h .1 p in ((c .0 .0, alive-grows (s STATE) a RUNNABLE (at s MAIL-OWNER e - 1) y (c .0 .1)), c .1));
-      arrivals = g .arrivals;
-      arrived = g .arrived;
-      filters = filters-still k s g a RUNNABLE l (λ e. omega arith);
-      datas = λ d h. (g .datas d h .0, λ p. let c = g .datas d h .1 p in (c .0, (sender-later (s AGE) a _ _ (omega (arith, col k s g AGE tt)) (c .1 .0), c .1 .1)));
-      held = g .held;
-      links = λ e h. (g .links e h .0, λ p. ends-grow (s STATE) a RUNNABLE _ _ y (g .links e h .1 p));
-      pairs = g .pairs;
-      monitors = λ i h. (g .monitors i h .0, (g .monitors i h .1 .0, λ p. ends-grow (s STATE) a RUNNABLE _ _ y (g .monitors i h .1 .1 p)));
-      timers = λ i h. (g .timers i h .0, (g .timers i h .1 .0, λ p. let c = g .timers i h .1 .1 p in (alive-grows (s STATE) a RUNNABLE _ y (c .0), c .1)));
-    }
+    patch k g (wrote-ready (wrote-poke (wrote-poke (wrote-none s) AGE a _) PRIORITY a priority) a 0) (
+    Part.head by (rw (one-more k s g) (g .head .0, (omega arith, g .head .1 .1))) also
+    Part.actors by (λ b h. each-set (λ b. Holds (actorRule k t b)) a b
+    (rw (is, why, age, level) ((omega arith, (r, omega arith)), ((omega arith, λ e. absurd (omega arith)), g .actors a l .1 .1)))
+    (λ q. rw (other (s STATE) a RUNNABLE b q, other (s REASON) a 0 b q, other (s AGE) a (at s AGE a + 1) b q, other (s PRIORITY) a priority b q) (g .actors b h))) also
+    Part.idle by (λ b h. each-set (λ b. Holds (idleRule t b)) a b
+    (rw is (λ e. absurd (omega arith), (λ e. absurd (e refl), λ e. g .idle a l .1 .1 (λ z. omega (arith, u)))))
+    (λ q. rw (other (s STATE) a RUNNABLE b q, other (s REASON) a 0 b q, other (s PRIORITY) a priority b q) (g .idle b h))) also
+    Part.runs by (λ b h. each-set (λ b. Holds (runRule t b)) a b
+    (rw is (rw u at (g .runs a l)))
+    (λ q. rw (other (s STATE) a RUNNABLE b q) (g .runs b h))) also
+    Part.queue by (rw (one-more k s g) (queue-up k s g a l (rw u))) also
+    Part.once by (rw (one-more k s g) (once-up k s g a l (rw u))) also
+    Part.mails by (λ e h. (g .mails e h .0, λ p. let c = g .mails e h .1 p in ((c .0 .0, alive-grows (s STATE) a RUNNABLE (at s MAIL-OWNER e - 1) y (c .0 .1)), c .1))) also
+    Part.filters by (filters-still k s g a RUNNABLE l (λ e. omega arith)) also
+    Part.datas by (λ d h. (g .datas d h .0, λ p. let c = g .datas d h .1 p in (c .0, (sender-later (s AGE) a _ _ (omega (arith, col k s g AGE tt)) (c .1 .0), c .1 .1)))) also
+    Part.links by (λ e h. (g .links e h .0, λ p. ends-grow (s STATE) a RUNNABLE _ _ y (g .links e h .1 p))) also
+    Part.monitors by (λ i h. (g .monitors i h .0, (g .monitors i h .1 .0, λ p. ends-grow (s STATE) a RUNNABLE _ _ y (g .monitors i h .1 .1 p)))) also
+    Part.timers by (λ i h. (g .timers i h .0, (g .timers i h .1 .0, λ p. let c = g .timers i h .1 .1 p in (alive-grows (s STATE) a RUNNABLE _ y (c .0), c .1)))) also
+    done) refl
 
 -- the slot that a spawn takes, where there is one: free and not worn
 pub slot-found : (k : Caps) (s : State) → slotFor k s < k .actors → (at s STATE (slotFor k s) ≡ FREE) × (at s AGE (slotFor k s) < OLDEST)
 slot-found k s l = of-usable OLDEST (s STATE) (s AGE) (slotFor k s) (lowest-at (usable OLDEST (s STATE) (s AGE)) (k .actors) l)
 
 -- "Spawn takes a priority and puts the actor at the tail of its level": sound as before
-pub spawn-keeps : (priority : ℕ) (k : Caps) (s : State) → Good k s → Good k (spawnRule priority k s .state)
-unfolding spawnRule
-spawn-keeps priority k s g =
-    split (ltb 3 priority) (λ q. rw q g)
-    (λ q. split (ltb (slotFor k s) (k .actors))
-    (λ r. let l = ltb-true (slotFor k s) (k .actors) r in
+pub spawn-keeps : (priority : ℕ) → Keeps (spawn priority)
+spawn-keeps priority k s g p =
+    let l = ltb-true (slotFor k s) (k .actors) (held (ltb (slotFor k s) (k .actors)) (p .1 .0)) in
     let f = slot-found k s l in
-    rw (q, r) (born-keeps k s (slotFor k s) priority g l (f .0) (f .1) (ltb-false 3 priority q)))
-    (λ r. rw (q, r) g))
+    born-keeps k s (slotFor k s) priority g l (f .0) (f .1) (ltb-false 3 priority (p .0))
 
 -- ---- yield
 -- the running actor of slot a, at the tail of its level
@@ -197,45 +172,26 @@ rest-keeps k s a g l c u =
     let w : alive (set (s STATE) a RUNNABLE) ≡ alive (s STATE) = alive-same (s STATE) a RUNNABLE (λ e. omega (arith, u)) (λ e. omega arith) in
     let is : getD (set (s STATE) a RUNNABLE) a 0 ≡ RUNNABLE = getD-set-same (s STATE) a RUNNABLE 0 (omega (arith, col k s g STATE tt)) in
     let none : getD (set (s RUNNING) 0 0) 0 0 ≡ 0 = set-zero (s RUNNING) 0 in
-    record {
-      range = g .range;
-      sized = sized-push k _ QUEUE QUEUED a (sized-poke k _ REASON a 0 (sized-poke k _ STATE a RUNNABLE (sized-poke k s RUNNING 0 0 (g .sized))));
-      caps = g .caps;
-      head = rw (one-more k s g, none) ((g .head .0 .0, omega arith), (omega arith, g .head .1 .1));
-      spare = spare-same s t (refl, refl, refl, refl, refl, refl) (g .spare);
-      mailBits = g .mailBits;
-      dataBits = g .dataBits;
-      actors = λ b h. each-set (λ b. Holds (actorRule k t b)) a b
-          (rw (is, set-zero (s REASON) a) ((omega arith, (g .actors a l .0 .1 .0, omega arith)), ((g .actors a l .1 .0 .0, λ e. absurd (omega (arith, u, g .actors a l .1 .0 .1 e))), g .actors a l .1 .1)))
-          (λ q. rw (other (s STATE) a RUNNABLE b q, other (s REASON) a 0 b q) (g .actors b h));
-      idle = λ b h. each-set (λ b. Holds (idleRule t b)) a b
-          (rw is (λ e. absurd (omega arith), (λ e. absurd (e refl), λ e. g .idle a l .1 .1 (λ z. omega (arith, u)))))
-          (λ q. rw (other (s STATE) a RUNNABLE b q, other (s REASON) a 0 b q) (g .idle b h));
-      waits = g .waits;
-      runs = λ b h. rw (none, ne-eqb 0 (suc b) (λ e. omega arith)) (each-set (λ b. boolByte (eqb (getD (set (s STATE) a RUNNABLE) b 0) RUNS) ≡ 0) a b
-          (rw is)
-          (λ q. rw (other (s STATE) a RUNNABLE b q) (g .runs b h ∙ rw (c, ne-eqb (suc a) (suc b) (λ e. eqb-false b a q (omega arith))))));
-      queue = rw (one-more k s g) (queue-up k s g a l (rw u));
-      once = rw (one-more k s g) (once-up k s g a l (rw u));
-      mails = rw w (g .mails);
-      arrivals = g .arrivals;
-      arrived = g .arrived;
-      filters = filters-still k s g a RUNNABLE l (λ e. omega arith);
-      datas = g .datas;
-      held = g .held;
-      links = rw w (g .links);
-      pairs = g .pairs;
-      monitors = rw w (g .monitors);
-      timers = rw w (g .timers);
-    }
+    patch-living k g (wrote-ready (wrote-poke (wrote-none s) RUNNING 0 0) a 0) (
+    Part.head by (rw (one-more k s g, none) ((g .head .0 .0, omega arith), (omega arith, g .head .1 .1))) also
+    Part.actors by (λ b h. each-set (λ b. Holds (actorRule k t b)) a b
+    (rw (is, set-zero (s REASON) a) ((omega arith, (g .actors a l .0 .1 .0, omega arith)), ((g .actors a l .1 .0 .0, λ e. absurd (omega (arith, u, g .actors a l .1 .0 .1 e))), g .actors a l .1 .1)))
+    (λ q. rw (other (s STATE) a RUNNABLE b q, other (s REASON) a 0 b q) (g .actors b h))) also
+    Part.idle by (λ b h. each-set (λ b. Holds (idleRule t b)) a b
+    (rw is (λ e. absurd (omega arith), (λ e. absurd (e refl), λ e. g .idle a l .1 .1 (λ z. omega (arith, u)))))
+    (λ q. rw (other (s STATE) a RUNNABLE b q, other (s REASON) a 0 b q) (g .idle b h))) also
+    Part.runs by (λ b h. rw (none, ne-eqb 0 (suc b) (λ e. omega arith)) (each-set (λ b. boolByte (eqb (getD (set (s STATE) a RUNNABLE) b 0) RUNS) ≡ 0) a b
+    (rw is)
+    (λ q. rw (other (s STATE) a RUNNABLE b q) (g .runs b h ∙ rw (c, ne-eqb (suc a) (suc b) (λ e. eqb-false b a q (omega arith))))))) also
+    Part.queue by (rw (one-more k s g) (queue-up k s g a l (rw u))) also
+    Part.once by (rw (one-more k s g) (once-up k s g a l (rw u))) also
+    Part.filters by (filters-still k s g a RUNNABLE l (λ e. omega arith)) also
+    done) w refl
 
 -- "Yield puts the running actor at the tail of its level": sound as before
-pub yield-keeps : (k : Caps) (s : State) → Good k s → Good k (yieldRule k s .state)
-unfolding yieldRule
-yield-keeps k s g =
-    split (eqb (runner s) 0) (λ q. rw q g)
-    (λ q. let p = runner-runs k s g q in
-    rw q (rest-keeps k s (runner s - 1) g (p .0) (omega (arith, eqb-false (runner s) 0 q)) (p .1)))
+pub yield-keeps : Keeps yield
+yield-keeps k s g p =
+    let r = runner-runs k s g (p .0) in rest-keeps k s (runner s - 1) g (r .0) (omega (arith, eqb-false (runner s) 0 (p .0))) (r .1)
 
 -- ---- next
 -- who stands in the queue is a runnable actor
@@ -257,69 +213,26 @@ run-keeps k s a j g e h c =
     let is : getD (set (s STATE) a RUNS) a 0 ≡ RUNS = getD-set-same (s STATE) a RUNS 0 (omega (arith, col k s g STATE tt)) in
     let one : getD (set (s RUNNING) 0 (suc a)) 0 0 ≡ suc a = getD-set-same (s RUNNING) 0 (suc a) 0 (omega (arith, col k s g RUNNING tt)) in
     let less : getD (set (s QUEUED) 0 (head s QUEUED - 1)) 0 0 ≡ head s QUEUED - 1 = getD-set-same (s QUEUED) 0 (head s QUEUED - 1) 0 (omega (arith, col k s g QUEUED tt)) in
-    record {
-      range = g .range;
-      sized = sized-poke k _ RUNNING 0 (suc a) (sized-poke k _ REASON a 0 (sized-poke k _ STATE a RUNS (sized-pull k s QUEUE QUEUED j h (omega (arith, g .head .1 .0, col k s g QUEUE tt)) (g .sized))));
-      caps = g .caps;
-      head = rw (less, one) ((g .head .0 .0, l), (omega (arith, g .head .1 .0), g .head .1 .1));
-      spare = spare-same s t (refl, refl, refl, refl, refl, refl) (g .spare);
-      mailBits = g .mailBits;
-      dataBits = g .dataBits;
-      actors = λ b n. each-set (λ b. Holds (actorRule k t b)) a b
-          (rw (is, set-zero (s REASON) a) ((omega arith, (g .actors a l .0 .1 .0, omega arith)), ((g .actors a l .1 .0 .0, λ e. absurd (omega (arith, u, g .actors a l .1 .0 .1 e))), g .actors a l .1 .1)))
-          (λ q. rw (other (s STATE) a RUNS b q, other (s REASON) a 0 b q) (g .actors b n));
-      idle = λ b n. each-set (λ b. Holds (idleRule t b)) a b
-          (rw (is, set-zero (s REASON) a) (λ e. absurd (omega arith), (λ e. refl, λ e. g .idle a l .1 .1 (λ z. omega (arith, u)))))
-          (λ q. rw (other (s STATE) a RUNS b q, other (s REASON) a 0 b q) (g .idle b n));
-      waits = g .waits;
-      runs = λ b n. rw one (each-set (λ b. boolByte (eqb (getD (set (s STATE) a RUNS) b 0) RUNS) ≡ boolByte (eqb (suc a) (suc b))) a b
-          (rw (is, eq-eqb (suc a) (suc a) refl))
-          (λ q. rw (other (s STATE) a RUNS b q, ne-eqb (suc a) (suc b) (λ e. eqb-false b a q (omega arith))) (g .runs b n ∙ rw (c, ne-eqb 0 (suc b) (λ e. omega arith)))));
-      queue = rw less (listed-leaves (k .actors) (head s QUEUED) (s QUEUE) (g .head .1 .0) (col k s g QUEUE tt) (g .queue) j h);
-      once = rw less (once-leaves (k .actors) (head s QUEUED) (s QUEUE) (g .head .1 .0) (col k s g QUEUE tt) (g .queue) j h
-          (λ b. eqb (at s STATE b) RUNNABLE) (λ b. eqb (getD (set (s STATE) a RUNS) b 0) RUNNABLE) (rw (e, is)) (λ b n. rw (getD-set-other (s STATE) a b RUNS 0 (λ z. n (z ∙ sym e)))) (g .once));
-      mails = rw w (g .mails);
-      arrivals = g .arrivals;
-      arrived = g .arrived;
-      filters = filters-still k s g a RUNS l (λ e. omega arith);
-      datas = g .datas;
-      held = g .held;
-      links = rw w (g .links);
-      pairs = g .pairs;
-      monitors = rw w (g .monitors);
-      timers = rw w (g .timers);
-    }
+    patch-living k g (wrote-run (wrote-none s) a j h (omega (arith, g .head .1 .0, col k s g QUEUE tt))) (
+    Part.head by (rw (less, one) ((g .head .0 .0, l), (omega (arith, g .head .1 .0), g .head .1 .1))) also
+    Part.actors by (λ b n. each-set (λ b. Holds (actorRule k t b)) a b
+    (rw (is, set-zero (s REASON) a) ((omega arith, (g .actors a l .0 .1 .0, omega arith)), ((g .actors a l .1 .0 .0, λ e. absurd (omega (arith, u, g .actors a l .1 .0 .1 e))), g .actors a l .1 .1)))
+    (λ q. rw (other (s STATE) a RUNS b q, other (s REASON) a 0 b q) (g .actors b n))) also
+    Part.idle by (λ b n. each-set (λ b. Holds (idleRule t b)) a b
+    (rw (is, set-zero (s REASON) a) (λ e. absurd (omega arith), (λ e. refl, λ e. g .idle a l .1 .1 (λ z. omega (arith, u)))))
+    (λ q. rw (other (s STATE) a RUNS b q, other (s REASON) a 0 b q) (g .idle b n))) also
+    Part.runs by (λ b n. rw one (each-set (λ b. boolByte (eqb (getD (set (s STATE) a RUNS) b 0) RUNS) ≡ boolByte (eqb (suc a) (suc b))) a b
+    (rw (is, eq-eqb (suc a) (suc a) refl))
+    (λ q. rw (other (s STATE) a RUNS b q, ne-eqb (suc a) (suc b) (λ e. eqb-false b a q (omega arith))) (g .runs b n ∙ rw (c, ne-eqb 0 (suc b) (λ e. omega arith)))))) also
+    Part.queue by (rw less (listed-leaves (k .actors) (head s QUEUED) (s QUEUE) (g .head .1 .0) (col k s g QUEUE tt) (g .queue) j h)) also
+    Part.once by (rw less (once-leaves (k .actors) (head s QUEUED) (s QUEUE) (g .head .1 .0) (col k s g QUEUE tt) (g .queue) j h
+    (λ b. eqb (at s STATE b) RUNNABLE) (λ b. eqb (getD (set (s STATE) a RUNS) b 0) RUNNABLE) (rw (e, is)) (λ b n. rw (getD-set-other (s STATE) a b RUNS 0 (λ z. n (z ∙ sym e)))) (g .once))) also
+    Part.filters by (filters-still k s g a RUNS l (λ e. omega arith)) also
+    done) w refl
 
 -- "Next takes the head of the first non-empty level": sound as before
-pub next-keeps : (k : Caps) (s : State) → Good k s → Good k (nextRule k s .state)
-unfolding nextRule
-next-keeps k s g =
-    split (eqb (runner s) 0)
-    (λ q. split (ltb (firstHead s 4) (head s QUEUED))
-    (λ p. rw (q, p) (run-keeps k s (at s QUEUE (firstHead s 4)) (firstHead s 4) g refl (ltb-true (firstHead s 4) (head s QUEUED) p) (eqb-true (runner s) 0 q)))
-    (λ p. rw (q, p) g))
+pub next-keeps : Keeps next
+next-keeps k s g p =
+    split (ltb (firstHead s 4) (head s QUEUED))
+    (λ q. rw q (run-keeps k s (at s QUEUE (firstHead s 4)) (firstHead s 4) g refl (ltb-true (firstHead s 4) (head s QUEUED) q) (eqb-true (runner s) 0 (held (eqb (runner s) 0) (p .0)))))
     (λ q. rw q g)
-
--- ---- the calls that only look
--- report
-pub report-keeps : (k : Caps) (s : State) → Good k s → Good k (reportRule k s .state)
-unfolding reportRule
-report-keeps k s g = g
-
--- showing leaves everything as it was
-pub show-still : (k : Caps) (s : State) → showRule k s .state ≡ s
-unfolding showRule
-show-still k s = split (eqb (runner s) 0) (λ q. rw q) (λ q. split (eqb (at s HAND (runner s - 1)) 0) (λ p. rw (q, p)) (λ p. rw (q, p)))
-
--- and so does its second call
-pub shown-still : (k : Caps) (s : State) → shownRule k s .state ≡ s
-unfolding shownRule
-shown-still k s = split (eqb (runner s) 0) (λ q. rw q) (λ q. split (eqb (at s HAND (runner s - 1)) 0) (λ p. rw (q, p)) (λ p. rw (q, p)))
-
--- show
-pub show-keeps : (k : Caps) (s : State) → Good k s → Good k (showRule k s .state)
-show-keeps k s g = rw (show-still k s) g
-
--- shown
-pub shown-keeps : (k : Caps) (s : State) → Good k s → Good k (shownRule k s .state)
-shown-keeps k s g = rw (shown-still k s) g

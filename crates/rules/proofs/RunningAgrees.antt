@@ -2,19 +2,17 @@
 use Prim.Native.Nat.{ℕ, suc, _+_, _-_, _≤_, _<_}
 use native.Mathlib.Omega.{arith}
 use mathlib.Core.Path.{_≡_, refl, sym, ap, ap₂, _∙_}
-use mathlib.Core.Logic.{_↔_}
 use mathlib.Core.Bool.{true, false, not}
 use mathlib.Core.List.{List, [], _∷_, _++_, map, map-append}
 use lib.ListN.{length, getD, set}
 use lib.Seq.{getD-set-same, getD-set-other}
 use lib.Dec.{eqb, ltb, lit<}
 use borrow.Author.Tests.{eqb-true, ne-eqb, ltb-true, ltb-false, le-leb, lt-leb, not-true}
-use Rattle.ledger.specs.Call.Call.{next, report, show, shown, spawn, yield}
-use Rattle.ledger.specs.Call.Answer.{part, plain}
+use Rattle.ledger.specs.Call.Op.{next, spawn, yield}
 use Rattle.ledger.specs.Ledger.{Actor, Ledger, Message, people, withPeople}
 use Rattle.ledger.specs.Lists.{first}
-use Rattle.ledger.specs.Reckon.{done, entered, runs, unmet}
-use Rattle.ledger.specs.Room.{actorsLeft, datasLeft, linksLeft, mailsLeft, monitorsLeft, short, timersLeft}
+use Rattle.ledger.specs.Reckon.{entered, runs}
+use Rattle.ledger.specs.Room.{actorsLeft, datasLeft, linksLeft, mailsLeft, monitorsLeft, timersLeft}
 use Rattle.pools.specs.Pool.{occurs}
 use Rattle.pools.specs.Slot.{idOf, unused, usable}
 use Rattle.pools.proofs.BoolLaws.{split, true-false}
@@ -26,105 +24,34 @@ use Rattle.tables.specs.Action.{push, pull}
 use Rattle.rules.specs.Terms.{FREE, OLDEST, RUNNABLE, RUNS, WAITS, actorId, alive, runner}
 use Rattle.rules.specs.Agrees.{Agrees, actorAt, arrivals, boxAt, handAt, isWorn, linkAt, monitorAt, timerAt}
 use Rattle.rules.specs.Actions.{halt, ready, unwait, wake}
-use Rattle.rules.specs.Calls.{firstHead, nextRule, reportRule, run, shownRule, slotFor, spawnRule, yieldRule}
-use Rattle.rules.specs.Run.{sayMade, sayReport, sayShown, sayTurn, showRule}
+use Rattle.rules.specs.Calls.{firstHead, reportRule, ruled, run, showRule, slotFor}
+use Rattle.rules.proofs.AgreeLaws.{agrees-people, agrees-still, living}
+use Rattle.rules.proofs.Claims.{Agreed, Short}
+use Rattle.rules.proofs.Frame.{wrote-none, wrote-poke}
+use Rattle.rules.proofs.Frames.{wrote-ready, wrote-run, wrote-unwait}
 use Rattle.rules.proofs.Good.{Good}
+use Rattle.rules.proofs.GuardLaws.{held}
 use Rattle.rules.proofs.ColumnLaws.{alive-begins, alive-free, alive-other, alive-same, of-alive, other, set-zero, worn-same}
 use Rattle.rules.proofs.LedgerLaws.{actors-left, bond-ends, box-owner, clock-owner, datas-left, eye-ends, first-map, first-none, first-only, id-eqb, id-not-zero, links-left, mails-left, map-same-on, monitors-left, palm-owner, room-same, runner-alive, runner-runs, running-is, timers-left}
-use Rattle.rules.proofs.Running.{queue-at, show-still, slot-found}
+use Rattle.rules.proofs.Running.{queue-at, slot-found}
 
 -- ---- the actions: the reckoning says who is alive and who runs, and not who waits
 -- slot a waits no more
 pub unwait-agrees : (k : Caps) (s : State) (l : Ledger) (a : ℕ) → Agrees k l s → Agrees k l (unwait s a)
 unfolding unwait poke with-col
-unwait-agrees k s l a r = record {
-  sizes = r .sizes;
-  clock = r .clock;
-  running = r .running;
-  slots = r .slots;
-  allSlots = r .allSlots;
-  live = r .live;
-  wornSlots = r .wornSlots;
-  allBoxes = r .allBoxes;
-  boxes = r .boxes;
-  palms = r .palms;
-  allPalms = r .allPalms;
-  hands = r .hands;
-  allDatas = r .allDatas;
-  clocks = r .clocks;
-  allClocks = r .allClocks;
-  timers = r .timers;
-  wornClocks = r .wornClocks;
-  bonds = r .bonds;
-  allBonds = r .allBonds;
-  links = r .links;
-  eyes = r .eyes;
-  allEyes = r .allEyes;
-  monitors = r .monitors;
-  wornEyes = r .wornEyes;
-}
+unwait-agrees k s l a r = let w = wrote-unwait (wrote-none s) a in agrees-still w r (living w refl) refl
 
 -- a live actor becomes runnable
 pub ready-agrees : (k : Caps) (s : State) (l : Ledger) (a reason : ℕ) → (at s STATE a ≡ 0 → ⊥) → Agrees k l s → Agrees k l (ready s a reason)
 unfolding ready push poke with-col
 ready-agrees k s l a reason u r =
     let y : RUNNABLE ≡ 0 → ⊥ = λ e. omega arith in
-    record {
-      sizes = r .sizes;
-      clock = r .clock;
-      running = r .running;
-      slots = r .slots;
-      allSlots = rw (alive-same (s STATE) a RUNNABLE u y) (r .allSlots);
-      live = r .live;
-      wornSlots = exact-same (isWorn (s STATE) (s AGE)) (isWorn (set (s STATE) a RUNNABLE) (s AGE)) (l .people .worn) (r .wornSlots) (worn-same (s STATE) (s AGE) a RUNNABLE u y);
-      allBoxes = r .allBoxes;
-      boxes = r .boxes;
-      palms = r .palms;
-      allPalms = r .allPalms;
-      hands = r .hands;
-      allDatas = r .allDatas;
-      clocks = r .clocks;
-      allClocks = r .allClocks;
-      timers = r .timers;
-      wornClocks = r .wornClocks;
-      bonds = r .bonds;
-      allBonds = r .allBonds;
-      links = r .links;
-      eyes = r .eyes;
-      allEyes = r .allEyes;
-      monitors = r .monitors;
-      wornEyes = r .wornEyes;
-    }
+    agrees-still (wrote-ready (wrote-none s) a reason) r (alive-same (s STATE) a RUNNABLE u y) refl
 
 -- nobody runs
 pub halt-agrees : (k : Caps) (s : State) (l : Ledger) → Agrees k l s → Agrees k (runs 0 l) (halt s)
 unfolding poke with-col
-halt-agrees k s l r = record {
-  sizes = r .sizes;
-  clock = r .clock;
-  running = rw (set-zero (s RUNNING) 0);
-  slots = r .slots;
-  allSlots = r .allSlots;
-  live = r .live;
-  wornSlots = r .wornSlots;
-  allBoxes = r .allBoxes;
-  boxes = r .boxes;
-  palms = r .palms;
-  allPalms = r .allPalms;
-  hands = r .hands;
-  allDatas = r .allDatas;
-  clocks = r .clocks;
-  allClocks = r .allClocks;
-  timers = r .timers;
-  wornClocks = r .wornClocks;
-  bonds = r .bonds;
-  allBonds = r .allBonds;
-  links = r .links;
-  eyes = r .eyes;
-  allEyes = r .allEyes;
-  monitors = r .monitors;
-  wornEyes = r .wornEyes;
-}
+halt-agrees k s l r = agrees-people (wrote-poke (wrote-none s) RUNNING 0 0) r _ refl (record { running = rw (set-zero (s RUNNING) 0); slots = r .people .slots; allSlots = r .people .allSlots; live = r .people .live; wornSlots = r .people .wornSlots })
 
 -- "A waiting actor becomes runnable": the reckoning is as before
 pub wake-agrees : (k : Caps) (s : State) (l : Ledger) (a reason : ℕ) → Good k s → Agrees k l s → a < k .actors → at s STATE a ≡ WAITS → reason ≤ 2 → Agrees k l (wake s a reason)
@@ -153,137 +80,96 @@ module _ (k : Caps) (s : State) (l : Ledger) (g : Good k s) (r : Agrees k l s) (
       let y : RUNNABLE ≡ 0 → ⊥ = λ e. omega arith in
       record {
         sizes = r .sizes;
-        clock = r .clock;
-        running = r .running ∙ split (eqb (runner s) 0) (λ q. rw q) (λ q. rw (q, age-there (runner s - 1) (runner-alive k s g q)));
-        slots = r .slots ++ (a ∷ []);
-        allSlots = exact-put (alive (s STATE)) (alive (set (s STATE) a RUNNABLE)) (r .slots) a (r .allSlots) (alive-free (s STATE) a u) (alive-begins (s STATE) a RUNNABLE n y) (alive-other (s STATE) a RUNNABLE);
-        live = ap₂ (λ (x : List Actor) (z : List Actor). x ++ z)
-            (r .live ∙ map-same-on (actorAt s) (actorAt t) (r .slots) (λ b p. let e = exact-used (alive (s STATE)) (r .slots) b (r .allSlots) p in rw (age-there b e, level-there b e)))
-            (rw (age, level))
-            ∙ sym (map-append (actorAt t) (r .slots) (a ∷ []));
-        wornSlots = exact-same (isWorn (s STATE) (s AGE)) (isWorn (set (s STATE) a RUNNABLE) (set (s AGE) a (at s AGE a + 1))) (l .people .worn) (r .wornSlots)
-            (λ b. split (eqb b a)
-            (λ q. rw (eqb-true b a q, getD-set-same (s STATE) a RUNNABLE 0 n, u, ne-eqb (at s AGE a) OLDEST (λ e. omega arith)))
-            (λ q. rw (other (s STATE) a RUNNABLE b q, other (s AGE) a (at s AGE a + 1) b q)));
-        allBoxes = r .allBoxes;
-        boxes = r .boxes ∙ map-same-on (boxAt s) (boxAt t) (arrivals s) (λ e p. rw (age-there (at s MAIL-OWNER e - 1) (box-owner k s g l r e p)));
-        palms = r .palms;
-        allPalms = r .allPalms;
-        hands = r .hands ∙ map-same-on (handAt s) (handAt t) (r .palms) (λ b p. rw (age-there b (palm-owner k s g l r b p)));
-        allDatas = r .allDatas;
-        clocks = r .clocks;
-        allClocks = r .allClocks;
-        timers = r .timers ∙ map-same-on (timerAt s) (timerAt t) (r .clocks) (λ i p. rw (age-there (at s TIMER-OWNER i - 1) (clock-owner k s g l r i p)));
-        wornClocks = r .wornClocks;
-        bonds = r .bonds;
-        allBonds = r .allBonds;
-        links = r .links ∙ map-same-on (linkAt s) (linkAt t) (r .bonds) (λ e p. let c = bond-ends k s g l r e p in rw (age-there (at s LINK-ONE e - 1) (c .0), age-there (at s LINK-TWO e - 1) (c .1)));
-        eyes = r .eyes;
-        allEyes = r .allEyes;
-        monitors = r .monitors ∙ map-same-on (monitorAt s) (monitorAt t) (r .eyes) (λ i p. let c = eye-ends k s g l r i p in rw (age-there (at s WATCHER i - 1) (c .0), age-there (at s WATCHED i - 1) (c .1)));
-        wornEyes = r .wornEyes;
+        people = record {
+          running = r .people .running ∙ split (eqb (runner s) 0) (λ q. rw q) (λ q. rw (q, age-there (runner s - 1) (runner-alive k s g q)));
+          slots = r .people .slots ++ (a ∷ []);
+          allSlots = exact-put (alive (s STATE)) (alive (set (s STATE) a RUNNABLE)) (r .people .slots) a (r .people .allSlots) (alive-free (s STATE) a u) (alive-begins (s STATE) a RUNNABLE n y) (alive-other (s STATE) a RUNNABLE);
+          live = ap₂ (λ (x : List Actor) (z : List Actor). x ++ z)
+              (r .people .live ∙ map-same-on (actorAt s) (actorAt t) (r .people .slots) (λ b p. let e = exact-used (alive (s STATE)) (r .people .slots) b (r .people .allSlots) p in rw (age-there b e, level-there b e)))
+              (rw (age, level))
+              ∙ sym (map-append (actorAt t) (r .people .slots) (a ∷ []));
+          wornSlots = exact-same (isWorn (s STATE) (s AGE)) (isWorn (set (s STATE) a RUNNABLE) (set (s AGE) a (at s AGE a + 1))) (l .people .worn) (r .people .wornSlots)
+              (λ b. split (eqb b a)
+              (λ q. rw (eqb-true b a q, getD-set-same (s STATE) a RUNNABLE 0 n, u, ne-eqb (at s AGE a) OLDEST (λ e. omega arith)))
+              (λ q. rw (other (s STATE) a RUNNABLE b q, other (s AGE) a (at s AGE a + 1) b q)));
+        };
+        mail = record {
+          allBoxes = r .mail .allBoxes;
+          boxes = r .mail .boxes ∙ map-same-on (boxAt s) (boxAt t) (arrivals s) (λ e p. rw (age-there (at s MAIL-OWNER e - 1) (box-owner k s g l r e p)));
+          palms = r .mail .palms;
+          allPalms = r .mail .allPalms;
+          hands = r .mail .hands ∙ map-same-on (handAt s) (handAt t) (r .mail .palms) (λ b p. rw (age-there b (palm-owner k s g l r b p)));
+          allDatas = r .mail .allDatas;
+        };
+        time = record {
+          clock = r .time .clock;
+          clocks = r .time .clocks;
+          allClocks = r .time .allClocks;
+          timers = r .time .timers ∙ map-same-on (timerAt s) (timerAt t) (r .time .clocks) (λ i p. rw (age-there (at s TIMER-OWNER i - 1) (clock-owner k s g l r i p)));
+          wornClocks = r .time .wornClocks;
+        };
+        links = record {
+          bonds = r .links .bonds;
+          allBonds = r .links .allBonds;
+          links = r .links .links ∙ map-same-on (linkAt s) (linkAt t) (r .links .bonds) (λ e p. let c = bond-ends k s g l r e p in rw (age-there (at s LINK-ONE e - 1) (c .0), age-there (at s LINK-TWO e - 1) (c .1)));
+        };
+        monitors = record {
+          eyes = r .monitors .eyes;
+          allEyes = r .monitors .allEyes;
+          monitors = r .monitors .monitors ∙ map-same-on (monitorAt s) (monitorAt t) (r .monitors .eyes) (λ i p. let c = eye-ends k s g l r i p in rw (age-there (at s WATCHER i - 1) (c .0), age-there (at s WATCHED i - 1) (c .1)));
+          wornEyes = r .monitors .wornEyes;
+        };
       }
 
 -- spawn: the reckoning has the new actor, by the id that was answered
-pub spawn-agrees : (priority : ℕ) (k : Caps) (s : State) (l : Ledger) → Good k s → Agrees k l s
-    → Agrees k (entered (record { call = spawn priority; answer = sayMade (spawnRule priority k s .ans) }) l) (spawnRule priority k s .state)
-unfolding spawnRule entered done
-spawn-agrees priority k s l g r =
-    split (ltb 3 priority) (λ q. rw q r)
-    (λ q. split (ltb (slotFor k s) (k .actors))
-    (λ p. let h = ltb-true (slotFor k s) (k .actors) p in
+pub spawn-agrees : (priority : ℕ) → Agreed (spawn priority)
+unfolding entered
+spawn-agrees priority k s l g r p =
+    let h = ltb-true (slotFor k s) (k .actors) (held (ltb (slotFor k s) (k .actors)) (p .1 .0)) in
     let f = slot-found k s h in
-    rw (q, p) (born-agrees k s l g r (slotFor k s) priority h (f .0) (f .1)))
-    (λ p. rw (q, p) r))
+    born-agrees k s l g r (slotFor k s) priority h (f .0) (f .1)
 
 -- "no room" exactly when no actor slot is left
-pub spawn-short : (priority : ℕ) (k : Caps) (s : State) (l : Ledger) → Good k s → Agrees k l s → (spawnRule priority k s .ans .no ≡ 2) ↔ (short l (spawn priority) ≡ true)
-unfolding spawnRule short
+pub spawn-short : (priority : ℕ) → Short (spawn priority)
 spawn-short priority k s l g r =
     let e = room-same (usable OLDEST (s STATE) (s AGE)) (k .actors) (actorsLeft l) (actors-left k s g l r) in
     split (ltb 3 priority)
-    (λ q. rw (q, lt-leb priority 3 (ltb-true 3 priority q)) (λ c. absurd (omega arith), λ c. true-false false c refl))
-    (λ q. rw (q, le-leb priority 3 (ltb-false 3 priority q), e)
-    (split (eqb (actorsLeft l) 0) (λ c. rw c (λ d. refl, λ d. refl)) (λ c. rw c (λ d. absurd (omega arith), λ d. true-false false d refl))))
+    (λ q. rw (q, lt-leb priority 3 (ltb-true 3 priority q)))
+    (λ q. rw (q, le-leb priority 3 (ltb-false 3 priority q), e) (split (eqb (actorsLeft l) 0) (λ c. rw c) (λ c. rw c)))
 
 -- ---- yield: nobody runs
-pub yield-agrees : (k : Caps) (s : State) (l : Ledger) → Good k s → Agrees k l s
-    → Agrees k (entered (record { call = yield; answer = plain (yieldRule k s .ans) }) l) (yieldRule k s .state)
-unfolding yieldRule entered done poke with-col
-yield-agrees k s l g r =
-    split (eqb (runner s) 0) (λ q. rw q r)
-    (λ q. rw q (ready-agrees k (halt s) (runs 0 l) (runner s - 1) 0 (λ e. omega (arith, runner-runs k s g q .1)) (halt-agrees k s l r)))
+pub yield-agrees : Agreed yield
+unfolding entered poke with-col
+yield-agrees k s l g r p = ready-agrees k (halt s) (runs 0 l) (runner s - 1) 0 (λ e. omega (arith, runner-runs k s g (p .0) .1)) (halt-agrees k s l r)
 
 -- ---- next: the one whose id was answered runs
-run-agrees : (k : Caps) (s : State) (l : Ledger) (a j : ℕ) → Good k s → (at s STATE a ≡ 0 → ⊥) → Agrees k l s → Agrees k (runs (actorId s a) l) (run s a j)
+run-agrees : (k : Caps) (s : State) (l : Ledger) (a j : ℕ) → j < head s QUEUED → Good k s → (at s STATE a ≡ 0 → ⊥) → Agrees k l s → Agrees k (runs (actorId s a) l) (run s a j)
 unfolding run pull poke with-col
-run-agrees k s l a j g u r =
+run-agrees k s l a j h g u r =
     let y : RUNS ≡ 0 → ⊥ = λ e. omega arith in
     let one : getD (set (s RUNNING) 0 (suc a)) 0 0 ≡ suc a = getD-set-same (s RUNNING) 0 (suc a) 0 (omega (arith, g .sized .words RUNNING (lit< tt))) in
     let less : suc a - 1 ≡ a = omega arith in
-    record {
-      sizes = r .sizes;
-      clock = r .clock;
+    agrees-people (wrote-run (wrote-none s) a j h (omega (arith, g .head .1 .0, g .sized .words QUEUE (lit< tt)))) r _ refl (record {
       running = rw (one, ne-eqb (suc a) 0 (λ e. omega arith), less);
-      slots = r .slots;
-      allSlots = rw (alive-same (s STATE) a RUNS u y) (r .allSlots);
-      live = r .live;
-      wornSlots = exact-same (isWorn (s STATE) (s AGE)) (isWorn (set (s STATE) a RUNS) (s AGE)) (l .people .worn) (r .wornSlots) (worn-same (s STATE) (s AGE) a RUNS u y);
-      allBoxes = r .allBoxes;
-      boxes = r .boxes;
-      palms = r .palms;
-      allPalms = r .allPalms;
-      hands = r .hands;
-      allDatas = r .allDatas;
-      clocks = r .clocks;
-      allClocks = r .allClocks;
-      timers = r .timers;
-      wornClocks = r .wornClocks;
-      bonds = r .bonds;
-      allBonds = r .allBonds;
-      links = r .links;
-      eyes = r .eyes;
-      allEyes = r .allEyes;
-      monitors = r .monitors;
-      wornEyes = r .wornEyes;
-    }
+      slots = r .people .slots;
+      allSlots = rw (alive-same (s STATE) a RUNS u y) (r .people .allSlots);
+      live = r .people .live;
+      wornSlots = exact-same (isWorn (s STATE) (s AGE)) (isWorn (set (s STATE) a RUNS) (s AGE)) (l .people .worn) (r .people .wornSlots) (worn-same (s STATE) (s AGE) a RUNS u y);
+    })
 
 -- next, and the reckoning
-pub next-agrees : (k : Caps) (s : State) (l : Ledger) → Good k s → Agrees k l s
-    → Agrees k (entered (record { call = next; answer = sayTurn (nextRule k s .ans) }) l) (nextRule k s .state)
-unfolding nextRule entered done unmet
-next-agrees k s l g r =
-    split (eqb (runner s) 0)
-    (λ q. split (ltb (firstHead s 4) (head s QUEUED))
+pub next-agrees : Agreed next
+unfolding entered
+next-agrees k s l g r h =
+    split (ltb (firstHead s 4) (head s QUEUED))
     (λ p. let c = queue-at k s g (firstHead s 4) (ltb-true (firstHead s 4) (head s QUEUED) p) in
-    rw (q, p) (run-agrees k s l (at s QUEUE (firstHead s 4)) (firstHead s 4) g (λ e. omega (arith, c .1)) r))
-    (λ p. rw (q, p) r))
-    (λ q. rw q r)
-
--- ---- the calls that only look change nothing of the reckoning
--- report
-pub report-agrees : (k : Caps) (s : State) (l : Ledger) → Good k s → Agrees k l s
-    → Agrees k (entered (record { call = report; answer = sayReport (reportRule k s .ans) }) l) (reportRule k s .state)
-unfolding reportRule entered done
-report-agrees k s l g r = r
-
--- show
-pub show-agrees : (k : Caps) (s : State) (l : Ledger) → Good k s → Agrees k l s
-    → Agrees k (entered (record { call = show; answer = part (showRule k s .ans) }) l) (showRule k s .state)
-unfolding entered done
-show-agrees k s l g r = rw (show-still k s) r
-
--- shown
-pub shown-agrees : (k : Caps) (s : State) (l : Ledger) → Good k s → Agrees k l s
-    → Agrees k (entered (record { call = shown; answer = sayShown (shownRule k s .ans) }) l) (shownRule k s .state)
-unfolding shownRule entered done
-shown-agrees k s l g r =
-    split (eqb (runner s) 0) (λ q. rw q r) (λ q. split (eqb (at s HAND (runner s - 1)) 0) (λ p. rw (q, p) r) (λ p. rw (q, p) r))
+    rw p (run-agrees k s l (at s QUEUE (firstHead s 4)) (firstHead s 4) (ltb-true (firstHead s 4) (head s QUEUED) p) g (λ e. omega (arith, c .1)) r))
+    (λ p. rw p r)
 
 -- "the six free counts side by side, in the order of the pool table, worn slots not counted": what the reckoning has left
 pub report-counts : (k : Caps) (s : State) (l : Ledger) → Good k s → Agrees k l s
     → reportRule k s .ans .free ≡ actorsLeft l ∷ mailsLeft l ∷ datasLeft l ∷ linksLeft l ∷ monitorsLeft l ∷ timersLeft l ∷ []
-unfolding reportRule
+unfolding ruled
 report-counts k s l g r = rw (actors-left k s g l r, mails-left k s g l r, datas-left k s g l r, links-left k s g l r, monitors-left k s g l r, timers-left k s g l r)
 
 -- ---- what is shown
@@ -300,31 +186,31 @@ module _ (k : Caps) (s : State) (l : Ledger) (g : Good k s) (r : Agrees k l s) w
   -- nobody runs: there is none
   hand-idle : eqb (runner s) 0 ≡ true → inHand l ≡ []
   hand-idle q =
-      let z : l .people .running ≡ 0 = r .running ∙ rw q in
-      rw (z, r .hands, first-map (λ m. eqb (m .to) 0) (handAt s) (r .palms))
-      (ap (map (handAt s)) (first-none (λ a. eqb (actorId s a) 0) (r .palms) (λ a o. id-not-zero k s g a (palm-owner k s g l r a o))))
+      let z : l .people .running ≡ 0 = r .people .running ∙ rw q in
+      rw (z, r .mail .hands, first-map (λ m. eqb (m .to) 0) (handAt s) (r .mail .palms))
+      (ap (map (handAt s)) (first-none (λ a. eqb (actorId s a) 0) (r .mail .palms) (λ a o. id-not-zero k s g a (palm-owner k s g l r a o))))
 
   module _ (q : eqb (runner s) 0 ≡ false) where
     -- a hand is the caller's where its slot is
-    hand-own : (a : ℕ) → 0 < occurs a (r .palms) → eqb (actorId s a) (actorId s (runner s - 1)) ≡ eqb a (runner s - 1)
+    hand-own : (a : ℕ) → 0 < occurs a (r .mail .palms) → eqb (actorId s a) (actorId s (runner s - 1)) ≡ eqb a (runner s - 1)
     hand-own a o = id-eqb k s g a (runner s - 1) (palm-owner k s g l r a o) (runner-alive k s g q)
 
     -- an empty hand
     hand-none : eqb (at s HAND (runner s - 1)) 0 ≡ true → inHand l ≡ []
     hand-none p =
-        rw (running-is k s g l r q, r .hands, first-map (λ m. eqb (m .to) (actorId s (runner s - 1))) (handAt s) (r .palms))
-        (ap (map (handAt s)) (first-none (λ a. eqb (actorId s a) (actorId s (runner s - 1))) (r .palms) (λ a o. hand-own a o ∙ ne-eqb a (runner s - 1) (λ e.
-        true-false (unused (s HAND) (runner s - 1)) p (ap (unused (s HAND)) (sym e) ∙ not-true (unused (s HAND) a) (exact-used (λ a. not (unused (s HAND) a)) (r .palms) a (r .allPalms) o))))))
+        rw (running-is k s g l r q, r .mail .hands, first-map (λ m. eqb (m .to) (actorId s (runner s - 1))) (handAt s) (r .mail .palms))
+        (ap (map (handAt s)) (first-none (λ a. eqb (actorId s a) (actorId s (runner s - 1))) (r .mail .palms) (λ a o. hand-own a o ∙ ne-eqb a (runner s - 1) (λ e.
+        true-false (unused (s HAND) (runner s - 1)) p (ap (unused (s HAND)) (sym e) ∙ not-true (unused (s HAND) a) (exact-used (λ a. not (unused (s HAND) a)) (r .mail .palms) a (r .mail .allPalms) o))))))
 
     -- a message in hand
     hand-some : eqb (at s HAND (runner s - 1)) 0 ≡ false → inHand l ≡ handAt s (runner s - 1) ∷ []
     hand-some p =
-        rw (running-is k s g l r q, r .hands, first-map (λ m. eqb (m .to) (actorId s (runner s - 1))) (handAt s) (r .palms))
-        (ap (map (handAt s)) (first-only (λ a. eqb (actorId s a) (actorId s (runner s - 1))) (r .palms) (runner s - 1) (r .allPalms (runner s - 1) ∙ rw p) hand-own))
+        rw (running-is k s g l r q, r .mail .hands, first-map (λ m. eqb (m .to) (actorId s (runner s - 1))) (handAt s) (r .mail .palms))
+        (ap (map (handAt s)) (first-only (λ a. eqb (actorId s a) (actorId s (runner s - 1))) (r .mail .palms) (runner s - 1) (r .mail .allPalms (runner s - 1) ∙ rw p) hand-own))
 
   -- "The payload in hand is shown": what is shown are the bytes of the message that the reckoning has in the caller's hand
   pub show-hand : showRule k s .ans ≡ bytesOf (inHand l)
-  unfolding showRule
+  unfolding ruled
   show-hand =
       split (eqb (runner s) 0) (λ q. rw (q, hand-idle q))
       (λ q. split (eqb (at s HAND (runner s - 1)) 0) (λ p. rw (q, p, hand-none q p)) (λ p. rw (q, p, hand-some q p)))

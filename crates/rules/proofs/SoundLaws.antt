@@ -7,7 +7,7 @@ use lib.ListN.{length}
 use lib.Dec.{leb}
 use borrow.Author.Tests.{leb-true, le-leb}
 use Rattle.tables.specs.declared.Caps.{Caps}
-use Rattle.tables.specs.Columns.{PAYLOAD}
+use Rattle.tables.specs.Columns.{PAYLOAD, REST}
 use Rattle.tables.specs.State.{size, needed, neededP, view, InRange, Room}
 use Rattle.tables.proofs.ViewLaws.{view-full, full-view, view-fullP, full-viewP}
 use Rattle.rules.specs.Rule.{each, eq, test, Holds}
@@ -19,7 +19,7 @@ pub size-test : (k : Caps) (w p : List ℕ) → test (sizeRule k (view k w p)) �
 unfolding sizeRule
 size-test k w p =
     and-same
-    (same-test (each 42 (λ c. eq (length (view k w p c)) (size k c))) (leb (needed k) (length w)) (λ h. le-leb (needed k) (length w) (full-view k w p h)) (λ e. view-full k w p (leb-true (needed k) (length w) e)))
+    (same-test (each REST (λ c. eq (length (view k w p c)) (size k c))) (leb (needed k) (length w)) (λ h. le-leb (needed k) (length w) (full-view k w p h)) (λ e. view-full k w p (leb-true (needed k) (length w) e)))
     (same-test (eq (length (view k w p PAYLOAD)) (neededP k)) (leb (neededP k) (length p)) (λ h. le-leb (neededP k) (length p) (full-viewP k w p h)) (λ e. view-fullP k w p (leb-true (neededP k) (length p) e)))
 
 -- the ranges, as a record

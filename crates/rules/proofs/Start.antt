@@ -13,14 +13,14 @@ use Rattle.pools.specs.Pool.{occurs}
 use Rattle.pools.specs.Bits.{bit, free}
 use Rattle.pools.proofs.BoolLaws.{split, true-false, and-left, and-right}
 use Rattle.tables.specs.declared.Caps.{Caps}
-use Rattle.tables.specs.Columns.{DATA-FREE, MAIL-FREE}
+use Rattle.tables.specs.Columns.{ACTORS, DATA-FREE, DATAS, LINKS, MAIL-FREE, MAILS, MONITORS, PAST, PAYLOAD, REST, TIMERS}
 use Rattle.tables.specs.State.{State, capsOf, head, view, InRange, Room, needed, neededP, size, sizes, with-col, poke}
 use Rattle.tables.proofs.ViewLaws.{Sized, sized-view}
-use Rattle.tables.proofs.ActionLaws.{sized-poke}
 use Rattle.rules.specs.Rule.{Holds, test}
 use Rattle.rules.specs.Sound.{pairRule, rangeRule, soundRule, viewOf, zeros}
 use Rattle.rules.specs.Terms.{alive}
 use Rattle.rules.specs.Agrees.{Agrees, sizesOf}
+use Rattle.rules.proofs.Frame.{wrote-none, wrote-poke, wrote-sized}
 use Rattle.rules.proofs.Good.{Good}
 use Rattle.rules.proofs.Keep.{join-sound}
 use Rattle.rules.proofs.RuleLaws.{reads}
@@ -89,24 +89,24 @@ module _ (k : Caps) (s : State) (r : InRange k) (z : Sized k s) where
   fresh-sized : Sized k (fresh k s)
   unfolding fresh freed stated zeroed
   fresh-sized =
-      p _ 17 3 _ (p _ 17 2 _ (p _ 17 1 _ (p _ 17 0 _ (p _ 16 3 _ (p _ 16 2 _ (p _ 16 1 _ (p _ 16 0 _ (p _ 5 0 _ (p _ 4 0 _ (p _ 3 0 _ (p _ 2 0 _ (p _ 1 0 _ (p (zeroed k s) 0 0 _ (record { words = words; bytes = bytes; past = past }))))))))))))))
+      p _ DATA-FREE 3 _ (p _ DATA-FREE 2 _ (p _ DATA-FREE 1 _ (p _ DATA-FREE 0 _ (p _ MAIL-FREE 3 _ (p _ MAIL-FREE 2 _ (p _ MAIL-FREE 1 _ (p _ MAIL-FREE 0 _ (p _ TIMERS 0 _ (p _ MONITORS 0 _ (p _ LINKS 0 _ (p _ DATAS 0 _ (p _ MAILS 0 _ (p (zeroed k s) ACTORS 0 _ (record { words = words; bytes = bytes; past = past }))))))))))))))
     where
       p : (u : State) (c i v : ℕ) → Sized k u → Sized k (poke u c i v)
-      p u c i v h = sized-poke k u c i v h
+      p u c i v h = wrote-sized k (wrote-poke (wrote-none u) c i v) h
 
-      none : (c : ℕ) → 42 ≤ c → size k c ≡ 0
+      none : (c : ℕ) → REST ≤ c → size k c ≡ 0
       none c l = List·getD-eq-default (sizes k) 0 l
 
-      words : (c : ℕ) → c < 42 → length (zeroed k s c) ≡ size k c
+      words : (c : ℕ) → c < REST → length (zeroed k s c) ≡ size k c
       words c l =
-          rw (ne-eqb c 42 (λ e. omega arith), ne-eqb c 44 (λ e. omega arith), ne-eqb c 43 (λ e. omega arith)) (length-replicate (size k c) 0)
+          rw (ne-eqb c REST (λ e. omega arith), ne-eqb c PAST (λ e. omega arith), ne-eqb c PAYLOAD (λ e. omega arith)) (length-replicate (size k c) 0)
 
-      bytes : length (zeroed k s 43) ≡ neededP k
+      bytes : length (zeroed k s PAYLOAD) ≡ neededP k
       bytes = length-replicate (neededP k) 0
 
-      past : (c : ℕ) → 44 < c → zeroed k s c ≡ []
+      past : (c : ℕ) → PAST < c → zeroed k s c ≡ []
       past c l =
-          rw (ne-eqb c 42 (λ e. omega arith), ne-eqb c 44 (λ e. omega arith), ne-eqb c 43 (λ e. omega arith))
+          rw (ne-eqb c REST (λ e. omega arith), ne-eqb c PAST (λ e. omega arith), ne-eqb c PAYLOAD (λ e. omega arith))
           (ap (λ (n : ℕ). replicate n 0) (none c (omega arith)))
 
   abbrev f : State
@@ -167,29 +167,39 @@ module _ (k : Caps) (s : State) (r : InRange k) (z : Sized k s) where
   unfolding fresh freed stated zeroed with-col poke alive occurs
   fresh-agrees = record {
     sizes = refl;
-    clock = refl;
-    running = refl;
-    slots = [];
-    allSlots = (λ a. rw (zero-at (k .actors) a));
-    live = refl;
-    wornSlots = (λ a. rw (zero-at (k .actors) a));
-    allBoxes = (λ e. split (ltb e (k .mails)) (λ q. rw (q, mail-free e (ltb-true e (k .mails) q))) (λ q. rw q));
-    boxes = refl;
-    palms = [];
-    allPalms = (λ a. rw (zero-at (k .actors) a));
-    hands = refl;
-    allDatas = (λ d. split (ltb d (k .datas)) (λ q. rw (q, data-free d (ltb-true d (k .datas) q))) (λ q. rw q));
-    clocks = [];
-    allClocks = (λ i. rw (zero-at (k .timers) i));
-    timers = refl;
-    wornClocks = (λ i. rw (zero-at (k .timers) i));
-    bonds = [];
-    allBonds = (λ e. rw (zero-at (k .links) e));
-    links = refl;
-    eyes = [];
-    allEyes = (λ i. rw (zero-at (k .monitors) i));
-    monitors = refl;
-    wornEyes = (λ i. rw (zero-at (k .monitors) i));
+    people = record {
+      running = refl;
+      slots = [];
+      allSlots = (λ a. rw (zero-at (k .actors) a));
+      live = refl;
+      wornSlots = (λ a. rw (zero-at (k .actors) a));
+    };
+    mail = record {
+      allBoxes = (λ e. split (ltb e (k .mails)) (λ q. rw (q, mail-free e (ltb-true e (k .mails) q))) (λ q. rw q));
+      boxes = refl;
+      palms = [];
+      allPalms = (λ a. rw (zero-at (k .actors) a));
+      hands = refl;
+      allDatas = (λ d. split (ltb d (k .datas)) (λ q. rw (q, data-free d (ltb-true d (k .datas) q))) (λ q. rw q));
+    };
+    time = record {
+      clock = refl;
+      clocks = [];
+      allClocks = (λ i. rw (zero-at (k .timers) i));
+      timers = refl;
+      wornClocks = (λ i. rw (zero-at (k .timers) i));
+    };
+    links = record {
+      bonds = [];
+      allBonds = (λ e. rw (zero-at (k .links) e));
+      links = refl;
+    };
+    monitors = record {
+      eyes = [];
+      allEyes = (λ i. rw (zero-at (k .monitors) i));
+      monitors = refl;
+      wornEyes = (λ i. rw (zero-at (k .monitors) i));
+    };
   }
 
 -- ---- in the buffers

@@ -7,9 +7,10 @@ use mathlib.Core.List.{List}
 use lib.ListN.{length}
 use lib.Dec.{eqb, leb, ltb}
 use borrow.Author.Tests.{eqb-false, le-ltb, lt-leb, ltb-false, ne-eqb, not-true}
-use Rattle.ledger.specs.Call.{Answer, Call, Line, Sizes, number}
+use Rattle.ledger.specs.Call.{Answer, Call, Line, Op, Sizes, number}
 use Rattle.ledger.specs.Call.Answer.{ended}
-use Rattle.ledger.specs.Call.Call.{start, spawn, next, yield, notify, receive, show, shown, after, every, cancel, link, unlink, monitor, demonitor, exit, advance, report}
+use Rattle.ledger.specs.Call.Call.{start, op}
+use Rattle.ledger.specs.Call.Op.{notify, exit}
 use Rattle.ledger.specs.Ledger.{Ledger}
 use Rattle.ledger.specs.Lists.{some}
 use Rattle.ledger.specs.Reckon.{entered, reckon}
@@ -23,24 +24,21 @@ use Rattle.tables.proofs.ViewLaws.{join-view}
 use Rattle.rules.specs.Terms.{ANY-TAG, PAYLOAD-MOST, actorId, alive, isActor, runner, runnerId}
 use Rattle.rules.specs.Rule.{Holds}
 use Rattle.rules.specs.Sound.{soundRule, viewOf}
-use Rattle.rules.specs.Calls.{Out, exitRule, linkRule, monitorRule, notifyRule, unlinkRule}
+use Rattle.rules.specs.Calls.{Out, exitRule, ruled}
 use Rattle.rules.specs.Run.{step}
-use Rattle.rules.specs.Story.{Aims, Begun, Meets, Promised, Story, begins, capsFrom, isStart, startless}
+use Rattle.rules.specs.Story.{Aims, Begun, Meets, Promised, Story, begins, capsFrom, startless}
 use Rattle.rules.specs.Agrees.{Agrees, arrivals, boxAt, handAt, linkAt, monitorAt, timerAt}
-use Rattle.rules.proofs.Advance.{advance-keeps}
 use Rattle.rules.proofs.ColumnLaws.{of-alive}
 use Rattle.rules.proofs.Departed.{Nothing}
-use Rattle.rules.proofs.Exit.{exit-keeps, exit-leaves-nothing}
+use Rattle.rules.proofs.Exit.{exit-leaves-nothing}
 use Rattle.rules.proofs.Good.{Good}
-use Rattle.rules.proofs.Ids.{Over, over-once, over-stays}
 use Rattle.rules.proofs.Keep.{good-view, host-keeps}
 use Rattle.rules.proofs.LedgerLaws.{alive-slot, bond-ends, box-owner, clock-owner, eye-ends, id-not-zero, known-same, palm-owner, runner-alive, running-is, some-map, some-no}
-use Rattle.rules.proofs.Messages.{notify-keeps, receive-keeps}
-use Rattle.rules.proofs.Running.{next-keeps, report-keeps, show-keeps, shown-keeps, spawn-keeps, yield-keeps}
+use Rattle.rules.proofs.Over.{Over, over-once, over-stays}
 use Rattle.rules.proofs.Start.{start-refused}
 use Rattle.rules.proofs.Story.{Kept, line, line-kept, story-kept}
 use Rattle.rules.proofs.StoryAnswers.{line-answer}
-use Rattle.rules.proofs.Ties.{after-keeps, cancel-keeps, demonitor-keeps, every-keeps, link-keeps, monitor-keeps, unlink-keeps}
+use Rattle.rules.proofs.Table.{step-agrees, step-keeps}
 
 -- ---- what the reckoning says of an id that is nobody's
 -- nothing is aimed at it: Departed's `Nothing`, whoever runs meanwhile
@@ -73,21 +71,21 @@ module _ (k : Caps) (s : State) (l : Ledger) (g : Good k s) (r : Agrees k l s) (
   -- THE LAW: at an id that is not that of a live actor nothing is aimed, since all that is in use is a live actor's
   pub nothing-aimed : (id ≡ 0 → ⊥) → known l id ≡ false → Unaimed id l
   nothing-aimed z n = record {
-    boxes = rw (r .boxes, some-map (λ m. eqb (m .to) id) (boxAt s) (arrivals s))
+    boxes = rw (r .mail .boxes, some-map (λ m. eqb (m .to) id) (boxAt s) (arrivals s))
         (some-no (λ e. eqb (actorId s (at s MAIL-OWNER e - 1)) id) (arrivals s) (λ e o. another n _ (box-owner k s g l r e o)));
-    hands = rw (r .hands, some-map (λ m. eqb (m .to) id) (handAt s) (r .palms))
-        (some-no (λ a. eqb (actorId s a) id) (r .palms) (λ a o. another n a (palm-owner k s g l r a o)));
-    timers = rw (r .timers, some-map (λ t. eqb (t .owner) id) (timerAt s) (r .clocks))
-        (some-no (λ i. eqb (actorId s (at s TIMER-OWNER i - 1)) id) (r .clocks) (λ i o. another n _ (clock-owner k s g l r i o)));
-    links = rw (r .links, some-map (λ p. eqb (p .one) id || eqb (p .two) id) (linkAt s) (r .bonds))
-        (some-no (λ e. eqb (actorId s (at s LINK-ONE e - 1)) id || eqb (actorId s (at s LINK-TWO e - 1)) id) (r .bonds) (λ e o.
+    hands = rw (r .mail .hands, some-map (λ m. eqb (m .to) id) (handAt s) (r .mail .palms))
+        (some-no (λ a. eqb (actorId s a) id) (r .mail .palms) (λ a o. another n a (palm-owner k s g l r a o)));
+    timers = rw (r .time .timers, some-map (λ t. eqb (t .owner) id) (timerAt s) (r .time .clocks))
+        (some-no (λ i. eqb (actorId s (at s TIMER-OWNER i - 1)) id) (r .time .clocks) (λ i o. another n _ (clock-owner k s g l r i o)));
+    links = rw (r .links .links, some-map (λ p. eqb (p .one) id || eqb (p .two) id) (linkAt s) (r .links .bonds))
+        (some-no (λ e. eqb (actorId s (at s LINK-ONE e - 1)) id || eqb (actorId s (at s LINK-TWO e - 1)) id) (r .links .bonds) (λ e o.
         let b = bond-ends k s g l r e o in rw (another n _ (b .0), another n _ (b .1))));
-    monitors = rw (r .monitors, some-map (λ m. eqb (m .target) id || eqb (m .watcher) id) (monitorAt s) (r .eyes))
-        (some-no (λ i. eqb (actorId s (at s WATCHED i - 1)) id || eqb (actorId s (at s WATCHER i - 1)) id) (r .eyes) (λ i o.
+    monitors = rw (r .monitors .monitors, some-map (λ m. eqb (m .target) id || eqb (m .watcher) id) (monitorAt s) (r .monitors .eyes))
+        (some-no (λ i. eqb (actorId s (at s WATCHED i - 1)) id || eqb (actorId s (at s WATCHER i - 1)) id) (r .monitors .eyes) (λ i o.
         let b = eye-ends k s g l r i o in rw (another n _ (b .1), another n _ (b .0))));
     live = n;
     rests = λ e. split (eqb (runner s) 0)
-        (λ q. z (sym e ∙ r .running ∙ rw q))
+        (λ q. z (sym e ∙ r .people .running ∙ rw q))
         (λ q. eqb-false (runnerId s) id (another n (runner s - 1) (runner-alive k s g q)) (sym (running-is k s g l r q) ∙ e));
   }
 
@@ -104,42 +102,18 @@ promised-state seven rule say keeps w p r w′ p′ q h =
     let x = host-keeps seven rule keeps w p (q .ans) w′ p′ (q .called) h in (x .2, x .3)
 
 -- THE LAW: after a call that is no start the buffers hold the state that its rule leaves
-pub line-state : (c : Call) → isStart c ≡ false → (w p : List ℕ) (r : Answer) (w′ p′ : List ℕ) → Meets c w p r w′ p′ → Holds (soundRule w p) →
-    (viewOf w′ p′ ≡ step c (capsOf w) (viewOf w p) .state) × (capsOf w′ ≡ capsOf w)
-unfolding step
-line-state (start z) x = λ w p r w′ p′ m h. true-false true refl x
-line-state (spawn n) x = promised-state _ _ _ (spawn-keeps n)
-line-state next x = promised-state _ _ _ next-keeps
-line-state yield x = promised-state _ _ _ yield-keeps
-line-state (notify to tag payload) x = promised-state _ _ _ (notify-keeps to tag payload)
-line-state (receive sender class tag wait) x = promised-state _ _ _ (receive-keeps sender class tag wait)
-line-state show x = promised-state _ _ _ show-keeps
-line-state shown x = promised-state _ _ _ shown-keeps
-line-state (after n) x = promised-state _ _ _ (after-keeps n)
-line-state (every n) x = promised-state _ _ _ (every-keeps n)
-line-state (cancel id) x = promised-state _ _ _ (cancel-keeps id)
-line-state (link id) x = promised-state _ _ _ (link-keeps id)
-line-state (unlink id) x = promised-state _ _ _ (unlink-keeps id)
-line-state (monitor id) x = promised-state _ _ _ (monitor-keeps id)
-line-state (demonitor id) x = promised-state _ _ _ (demonitor-keeps id)
-line-state (exit reason) x = promised-state _ _ _ (exit-keeps reason)
-line-state (advance micros) x = promised-state _ _ _ (advance-keeps micros)
-line-state report x = promised-state _ _ _ report-keeps
+pub line-state : (o : Op) (w p : List ℕ) (r : Answer) (w′ p′ : List ℕ) → Meets (op o) w p r w′ p′ → Holds (soundRule w p) →
+    (viewOf w′ p′ ≡ step o (capsOf w) (viewOf w p) .state) × (capsOf w′ ≡ capsOf w)
+line-state o = promised-state _ _ _ (step-keeps o)
 
 -- ---- an id that is over stays so
 -- after any call that is no start
-pub over-line : (c : Call) → isStart c ≡ false → (l : Ledger) (w p : List ℕ) (r : Answer) (w′ p′ : List ℕ) (id : ℕ) → Meets c w p r w′ p′ → Kept l w p → Over (viewOf w p) id → Over (viewOf w′ p′) id
-over-line c x l w p r w′ p′ id m h o =
-    let e = line-state c x w p r w′ p′ m (h .sound) in
-    let a = line-answer c x w p r w′ p′ m (h .sound) in
-    let j = line-kept c l w p r w′ p′ m h in
-    let good : Good (capsOf w) (step c (capsOf w) (viewOf w p) .state) =
-    subst (λ (k : Caps). Good k (step c (capsOf w) (viewOf w p) .state)) (e .1) (subst (λ (s : State). Good (capsOf w′) s) (e .0) (good-view w′ p′ (j .sound))) in
-    let agrees : Agrees (capsOf w) (entered (line c (step c (capsOf w) (viewOf w p) .ans)) l) (step c (capsOf w) (viewOf w p) .state) =
-    subst (λ (b : Answer). Agrees (capsOf w) (entered (line c b) l) (step c (capsOf w) (viewOf w p) .state)) a
-    (subst (λ (k : Caps). Agrees k (entered (line c r) l) (step c (capsOf w) (viewOf w p) .state)) (e .1)
-    (subst (λ (s : State). Agrees (capsOf w′) (entered (line c r) l) s) (e .0) (j .agrees))) in
-    subst (λ (s : State). Over s id) (sym (e .0)) (over-stays c (capsOf w) (viewOf w p) l id (good-view w p (h .sound)) (h .agrees) good agrees o)
+pub over-line : (c : Op) (l : Ledger) (w p : List ℕ) (r : Answer) (w′ p′ : List ℕ) (id : ℕ) → Meets (op c) w p r w′ p′ → Kept l w p → Over (viewOf w p) id → Over (viewOf w′ p′) id
+over-line c l w p r w′ p′ id m h o =
+    let e = line-state c w p r w′ p′ m (h .sound) in
+    let g = good-view w p (h .sound) in
+    subst (λ (s : State). Over s id) (sym (e .0))
+    (over-stays c (capsOf w) (viewOf w p) l id g (h .agrees) (step-keeps c (capsOf w) (viewOf w p) g) (step-agrees c (capsOf w) (viewOf w p) l g (h .agrees)) o)
 
 -- after a start that was refused
 over-refused : (z : Sizes) (w p : List ℕ) (r : Answer) (w′ p′ : List ℕ) (id : ℕ) → Begun z w p r w′ p′ → eqb (number r) 0 ≡ false → Over (viewOf w p) id → Over (viewOf w′ p′) id
@@ -150,23 +124,7 @@ over-refused z w p r w′ p′ id q n o =
 -- after any line that does not begin anew
 over-next : (c : Call) (l : Ledger) (w p : List ℕ) (r : Answer) (w′ p′ : List ℕ) (id : ℕ) → begins (line c r) ≡ false → Meets c w p r w′ p′ → Kept l w p → Over (viewOf w p) id → Over (viewOf w′ p′) id
 over-next (start z) l w p r w′ p′ id b = λ m h. over-refused z w p r w′ p′ id m b
-over-next (spawn n) l w p r w′ p′ id b = over-line (spawn n) refl l w p r w′ p′ id
-over-next next l w p r w′ p′ id b = over-line next refl l w p r w′ p′ id
-over-next yield l w p r w′ p′ id b = over-line yield refl l w p r w′ p′ id
-over-next (notify to tag payload) l w p r w′ p′ id b = over-line (notify to tag payload) refl l w p r w′ p′ id
-over-next (receive sender class tag wait) l w p r w′ p′ id b = over-line (receive sender class tag wait) refl l w p r w′ p′ id
-over-next show l w p r w′ p′ id b = over-line show refl l w p r w′ p′ id
-over-next shown l w p r w′ p′ id b = over-line shown refl l w p r w′ p′ id
-over-next (after n) l w p r w′ p′ id b = over-line (after n) refl l w p r w′ p′ id
-over-next (every n) l w p r w′ p′ id b = over-line (every n) refl l w p r w′ p′ id
-over-next (cancel i) l w p r w′ p′ id b = over-line (cancel i) refl l w p r w′ p′ id
-over-next (link i) l w p r w′ p′ id b = over-line (link i) refl l w p r w′ p′ id
-over-next (unlink i) l w p r w′ p′ id b = over-line (unlink i) refl l w p r w′ p′ id
-over-next (monitor i) l w p r w′ p′ id b = over-line (monitor i) refl l w p r w′ p′ id
-over-next (demonitor i) l w p r w′ p′ id b = over-line (demonitor i) refl l w p r w′ p′ id
-over-next (exit reason) l w p r w′ p′ id b = over-line (exit reason) refl l w p r w′ p′ id
-over-next (advance micros) l w p r w′ p′ id b = over-line (advance micros) refl l w p r w′ p′ id
-over-next report l w p r w′ p′ id b = over-line report refl l w p r w′ p′ id
+over-next (op o) l w p r w′ p′ id b = over-line o l w p r w′ p′ id
 
 -- THE LAW: and so after a whole story in which nothing begins anew
 pub story-over : {w p w′ p′ : List ℕ} {xs : List Line} (l : Ledger) (id : ℕ) → Story w p xs w′ p′ → startless xs ≡ true → Kept l w p → Over (viewOf w p) id → Over (viewOf w′ p′) id
@@ -185,45 +143,43 @@ runner-live k s g q =
 
 -- an exit that answered 0: somebody ran, and the reason was well-formed
 exit-done : (reason : ℕ) (k : Caps) (s : State) → exitRule reason k s .ans .no ≡ 0 → (eqb (runner s) 0 ≡ false) × (reason ≤ 65535)
-unfolding exitRule
+unfolding ruled
 exit-done reason k s =
     split (eqb (runner s) 0) (λ q. rw q (λ e. absurd (omega arith)))
     (λ q. split (ltb 65535 reason) (λ t. rw (q, t) (λ e. absurd (omega arith))) (λ t. rw (q, t) (λ e. (refl, ltb-false 65535 reason t))))
 
 -- its answer and its state are the rule's
 exit-no : (reason sent lost : ℕ) (k : Caps) (s : State) → ended 0 sent lost ≡ step (exit reason) k s .ans → exitRule reason k s .ans .no ≡ 0
-unfolding step
 exit-no reason sent lost k s e = sym (ap number e)
 
 exit-once : (reason : ℕ) (k : Caps) (s : State) → isActor s (runnerId s) ≡ true → isActor (exitRule reason k s .state) (runnerId s) ≡ false → Over (step (exit reason) k s .state) (runnerId s)
-unfolding step
 exit-once reason k s = over-once (exit reason) k s (runnerId s)
 
 -- the actor that ran is over
-exit-over : (reason sent lost : ℕ) (l : Ledger) (w p w₁ p₁ : List ℕ) → Meets (exit reason) w p (ended 0 sent lost) w₁ p₁ → Kept l w p → (l .people .running ≡ 0 → ⊥) × Over (viewOf w₁ p₁) (l .people .running)
+exit-over : (reason sent lost : ℕ) (l : Ledger) (w p w₁ p₁ : List ℕ) → Meets (op (exit reason)) w p (ended 0 sent lost) w₁ p₁ → Kept l w p → (l .people .running ≡ 0 → ⊥) × Over (viewOf w₁ p₁) (l .people .running)
 exit-over reason sent lost l w p w₁ p₁ m h =
     let k = capsOf w in
     let s = viewOf w p in
     let g = good-view w p (h .sound) in
-    let q = exit-done reason k s (exit-no reason sent lost k s (line-answer (exit reason) refl w p (ended 0 sent lost) w₁ p₁ m (h .sound))) in
+    let q = exit-done reason k s (exit-no reason sent lost k s (line-answer (exit reason) w p (ended 0 sent lost) w₁ p₁ m (h .sound))) in
     let there = runner-alive k s g (q .0) in
     let run = running-is k s g l (h .agrees) (q .0) in
     let now = exit-leaves-nothing reason k s g (q .0) (q .1) .2 in (
       λ z. eqb-false (runnerId s) 0 (id-not-zero k s g (runner s - 1) there) (sym run ∙ z),
       subst (λ (i : ℕ). Over (viewOf w₁ p₁) i) (sym run)
-          (subst (λ (t : State). Over t (runnerId s)) (sym (line-state (exit reason) refl w p (ended 0 sent lost) w₁ p₁ m (h .sound) .0)) (exit-once reason k s (runner-live k s g (q .0)) now)),
+          (subst (λ (t : State). Over t (runnerId s)) (sym (line-state (exit reason) w p (ended 0 sent lost) w₁ p₁ m (h .sound) .0)) (exit-once reason k s (runner-live k s g (q .0)) now)),
     )
 
 -- THE THEOREM: after an exit that answered 0, and any story after it in which nothing begins anew, the ended actor is no live one,
 -- and no message, timer, link or monitor is aimed at it
-pub ended-stays-ended : {w p w₁ p₁ w′ p′ : List ℕ} {xs : List Line} (reason sent lost : ℕ) (l : Ledger) → Meets (exit reason) w p (ended 0 sent lost) w₁ p₁ → Kept l w p →
+pub ended-stays-ended : {w p w₁ p₁ w′ p′ : List ℕ} {xs : List Line} (reason sent lost : ℕ) (l : Ledger) → Meets (op (exit reason)) w p (ended 0 sent lost) w₁ p₁ → Kept l w p →
     Story w₁ p₁ xs w′ p′ → startless xs ≡ true →
-    Unaimed (l .people .running) (reckon (entered (line (exit reason) (ended 0 sent lost)) l) xs) × (isActor (viewOf w′ p′) (l .people .running) ≡ false)
+    Unaimed (l .people .running) (reckon (entered (line (op (exit reason)) (ended 0 sent lost)) l) xs) × (isActor (viewOf w′ p′) (l .people .running) ≡ false)
 ended-stays-ended {w} {p} {w₁} {p₁} {w′} {p′} {xs} reason sent lost l m h y n =
     let id = l .people .running in
-    let l₁ = entered (line (exit reason) (ended 0 sent lost)) l in
+    let l₁ = entered (line (op (exit reason)) (ended 0 sent lost)) l in
     let o = exit-over reason sent lost l w p w₁ p₁ m h in
-    let j : Kept l₁ w₁ p₁ = line-kept (exit reason) l w p (ended 0 sent lost) w₁ p₁ m h in
+    let j : Kept l₁ w₁ p₁ = line-kept (op (exit reason)) l w p (ended 0 sent lost) w₁ p₁ m h in
     let f : Kept (reckon l₁ xs) w′ p′ = story-kept l₁ y j in
     let v : isActor (viewOf w′ p′) id ≡ false = story-over l₁ id y n j (o .1) .nobody in (
       nothing-aimed (capsOf w′) (viewOf w′ p′) (reckon l₁ xs) (good-view w′ p′ (f .sound)) (f .agrees) id (o .0) (sym (live-known (reckon l₁ xs) w′ p′ id f) ∙ v),
@@ -232,8 +188,8 @@ ended-stays-ended {w} {p} {w₁} {p₁} {w′} {p′} {xs} reason sent lost l m 
 
 -- ---- a call aimed at an id that is not that of a live actor
 -- THE LAW: it changes nothing, and does not answer 0
-pub strange : {c : Call} (k : Caps) (s : State) (id : ℕ) → Aims id c → isActor s id ≡ false → (step c k s .state ≡ s) × (number (step c k s .ans) ≡ 0 → ⊥)
-unfolding step notifyRule linkRule unlinkRule monitorRule
+pub strange : {c : Op} (k : Caps) (s : State) (id : ℕ) → Aims id c → isActor s id ≡ false → (step c k s .state ≡ s) × (number (step c k s .ans) ≡ 0 → ⊥)
+unfolding ruled
 strange k s id (Aims.notifies {tag} {payload}) n =
     split (eqb (runner s) 0) (λ q. rw q (refl, λ e. omega arith))
     (λ q. split (leb ANY-TAG tag || ltb PAYLOAD-MOST (length payload)) (λ y. rw (q, y) (refl, λ e. omega arith)) (λ y. rw (q, y, n) (refl, λ e. omega arith)))
@@ -251,9 +207,9 @@ not-runner : (k : Caps) (s : State) → Good k s → (id : ℕ) → eqb (runner 
 not-runner k s g id q n = ne-eqb id (runnerId s) (λ e. true-false (isActor s id) (ap (isActor s) e ∙ runner-live k s g q) n)
 
 -- THE LAW: where somebody runs, and a notify's tag and payload are well-formed, it answers 3
-pub strange-three : {c : Call} (k : Caps) (s : State) (id : ℕ) → Good k s → Aims id c → ((tag : ℕ) (payload : List ℕ) → c ≡ notify id tag payload → (tag < ANY-TAG) × (length payload ≤ PAYLOAD-MOST)) →
+pub strange-three : {c : Op} (k : Caps) (s : State) (id : ℕ) → Good k s → Aims id c → ((tag : ℕ) (payload : List ℕ) → c ≡ notify id tag payload → (tag < ANY-TAG) × (length payload ≤ PAYLOAD-MOST)) →
     eqb (runner s) 0 ≡ false → isActor s id ≡ false → number (step c k s .ans) ≡ 3
-unfolding step notifyRule linkRule unlinkRule monitorRule
+unfolding ruled
 strange-three k s id g (Aims.notifies {tag} {payload}) f q n =
     let h = f tag payload refl in rw (q, lt-leb ANY-TAG tag (h .0), le-ltb PAYLOAD-MOST (length payload) (h .1), n)
 strange-three k s id g Aims.links f q n = rw (q, not-runner k s g id q n, n)
@@ -261,18 +217,11 @@ strange-three k s id g Aims.unlinks f q n = rw (q, n)
 strange-three k s id g Aims.monitors f q n = rw (q, not-runner k s g id q n, n)
 
 -- THE THEOREM, of a line of a story: aimed at an id that the reckoning does not know as a live actor's, it leaves every word and byte as it was, and does not answer 0
-pub strange-line : {c : Call} (l : Ledger) (w p : List ℕ) (r : Answer) (w′ p′ : List ℕ) (id : ℕ) → Aims id c → Meets c w p r w′ p′ → Kept l w p → known l id ≡ false →
+pub strange-line : {c : Op} (l : Ledger) (w p : List ℕ) (r : Answer) (w′ p′ : List ℕ) (id : ℕ) → Aims id c → Meets (op c) w p r w′ p′ → Kept l w p → known l id ≡ false →
     (w′ ≡ w) × (p′ ≡ p) × (number r ≡ 0 → ⊥)
 strange-line {c} l w p r w′ p′ id a m h n =
-    let x = aims-start a in
     let z = strange (capsOf w) (viewOf w p) id a (live-known l w p id h ∙ n) in
-    let v : viewOf w′ p′ ≡ viewOf w p = line-state c x w p r w′ p′ m (h .sound) .0 ∙ z .0 in
+    let v : viewOf w′ p′ ≡ viewOf w p = line-state c w p r w′ p′ m (h .sound) .0 ∙ z .0 in
     let i = join-view (capsOf w) w p in
     let j = join-view (capsOf w′) w′ p′ in
-    (sym (j .0) ∙ ap joinW v ∙ i .0, sym (j .1) ∙ ap joinP v ∙ i .1, λ e. z .1 (ap number (sym (line-answer c x w p r w′ p′ m (h .sound))) ∙ e))
-  where
-    aims-start : {id : ℕ} {c : Call} → Aims id c → isStart c ≡ false
-    aims-start Aims.notifies = refl
-    aims-start Aims.links = refl
-    aims-start Aims.unlinks = refl
-    aims-start Aims.monitors = refl
+    (sym (j .0) ∙ ap joinW v ∙ i .0, sym (j .1) ∙ ap joinP v ∙ i .1, λ e. z .1 (ap number (sym (line-answer c w p r w′ p′ m (h .sound))) ∙ e))

@@ -2,21 +2,20 @@
 use Prim.Native.Nat.{ℕ, suc, _+_, _-_, _^_, _≤_, _<_}
 use native.Mathlib.Omega.{arith}
 use mathlib.Core.Path.{_≡_, refl, sym, ap, ap₂, subst, _∙_}
-use mathlib.Core.Logic.{_↔_}
 use mathlib.Core.Bool.{Bool, true, false, not, _&&_, _||_}
 use mathlib.Core.List.{List, [], _∷_, _++_, map, map-map, map-append}
-use lib.ListN.{length, set}
+use lib.ListN.{getD, length, set}
 use lib.Seq.{getD-set-same}
 use lib.Dec.{eqb, ltb, lit<}
 use borrow.Author.Tests.{eqb-true, eqb-false, eq-eqb, ne-eqb, ltb-true, ltb-false, lt-ltb, le-ltb, not-true}
-use Rattle.ledger.specs.Call.{Call}
-use Rattle.ledger.specs.Call.Answer.{plain}
-use Rattle.ledger.specs.Call.Call.{after, every, cancel, link, unlink, monitor, demonitor}
+use Rattle.ledger.specs.Call.{Op}
+use Rattle.ledger.specs.Call.Call.{op}
+use Rattle.ledger.specs.Call.Op.{after, every, cancel, link, unlink, monitor, demonitor}
 use Rattle.ledger.specs.Ledger.{Ledger, Link, Monitor, Time, Timer, ties, time, withTies, withTime}
 use Rattle.ledger.specs.Lists.{those}
 use Rattle.ledger.specs.Reckon
-use Rattle.ledger.specs.Reckon.{done, endLinks, endMonitors, endTimers, entered, linked, timer}
-use Rattle.ledger.specs.Room.{idle, linksLeft, monitorsLeft, short, timersLeft}
+use Rattle.ledger.specs.Reckon.{armed, endLinks, endMonitors, endTimers, entered, linked, page, timer}
+use Rattle.ledger.specs.Room.{idle, linksLeft, monitorsLeft, timersLeft}
 use Rattle.pools.specs.Pool.{occurs, Exact}
 use Rattle.pools.specs.Lists.{keep}
 use Rattle.pools.specs.Slot.{idOf, slotOf, unused, usable}
@@ -31,94 +30,62 @@ use Rattle.tables.specs.State.{InRange, State, at, head, with-col, poke}
 use Rattle.tables.proofs.ViewLaws.{Sized}
 use Rattle.rules.specs.Terms.{LONGEST, OLDEST, actorId, alive, isActor, isMonitor, isTimer, joins, monitorId, runner, runnerId, timerId}
 use Rattle.rules.specs.Agrees.{Agrees, isWorn, linkAt, monitorAt, timerAt}
-use Rattle.rules.specs.Calls.{afterRule, arm, armRule, cancelRule, demonitorRule, disarm, dropMonitors, dropTimers, everyRule, linkFor, linkOf, linkRule, monitorFor, monitorRule, tie, timerFor, unlinkRule, unwatch, watch}
+use Rattle.rules.specs.Calls.{arm, armEntry, disarm, dropMonitors, dropTimers, linkFor, linkOf, monitorFor, tie, timerFor, unwatch, watch}
 use Rattle.rules.specs.Run.{sayMade}
 use Rattle.rules.specs.Sound.{pairRule}
+use Rattle.rules.proofs.Claims.{Agreed, Short}
 use Rattle.rules.proofs.Good.{Good}
+use Rattle.rules.proofs.GuardLaws.{Passed, held, says}
 use Rattle.rules.proofs.ColumnLaws.{other}
 use Rattle.rules.proofs.LedgerLaws
 use Rattle.rules.proofs.LedgerLaws.{idle-same, known-same, links-left, map-same-on, monitors-left, room-same, running-is, runner-alive, some-map, some-no, some-yes, those-map, timers-left}
 use Rattle.rules.proofs.TieLaws.{below, keep-in, begins, worn-begins, ends, worn-ends, id-eqb, down, joins-none, pair-once, set-cond, used-inside}
-use Rattle.rules.proofs.Ties.{Beside, MonitorsEnd, TimersEnd, actor-alive, apart, disarm-ends, dropMonitors-ends, dropTimers-ends, linkColumn, mixed, mixed-is, monitor-slot, monitorColumn, tie-beside, timer-slot, timerColumn, unwatch-ends}
+use Rattle.rules.proofs.AgreeLaws.{agrees-links, agrees-monitors, agrees-time, living}
+use Rattle.rules.proofs.Frame.{Wrote, wrote-none}
+use Rattle.rules.proofs.Frames.{LINKED, TIMED, WATCHES, wrote-arm, wrote-tie, wrote-watch}
+use Rattle.rules.proofs.Ties.{MonitorsEnd, TimersEnd, actor-alive, disarm-ends, dropMonitors-ends, dropTimers-ends, monitor-slot, timer-slot, unwatch-ends}
 
 -- ---- the timers' columns alone differ
 module _ (k : Caps) (l : Ledger) (s u : State) where
-  -- the timers of u, and all else of s
-  mixed-time : (t : Time) (clocks : List ℕ) → Agrees k l s → t .clock ≡ l .time .clock → Exact clocks (λ i. not (unused (mixed timerColumn s u TIMER-OWNER) i)) →
-      t .timers ≡ map (timerAt (mixed timerColumn s u)) clocks → Exact (t .worn) (isWorn (mixed timerColumn s u TIMER-OWNER) (mixed timerColumn s u TIMER-AGE)) →
-      Agrees k (withTime l t) (mixed timerColumn s u)
-  unfolding mixed
-  mixed-time t clocks a c x m w = record {
-    sizes = a .sizes;
-    clock = c ∙ a .clock;
-    running = a .running;
-    slots = a .slots;
-    allSlots = a .allSlots;
-    live = a .live;
-    wornSlots = a .wornSlots;
-    allBoxes = a .allBoxes;
-    boxes = a .boxes;
-    palms = a .palms;
-    allPalms = a .allPalms;
-    hands = a .hands;
-    allDatas = a .allDatas;
-    clocks = clocks;
-    allClocks = x;
-    timers = m;
-    wornClocks = w;
-    bonds = a .bonds;
-    allBonds = a .allBonds;
-    links = a .links;
-    eyes = a .eyes;
-    allEyes = a .allEyes;
-    monitors = a .monitors;
-    wornEyes = a .wornEyes;
-  }
-
   -- a state that differs in its timers alone is what the reckoning says with other timers
-  pub timers-agree : (t : Time) (clocks : List ℕ) → Beside timerColumn s u → Agrees k l s → t .clock ≡ l .time .clock → Exact clocks (λ i. not (unused (u TIMER-OWNER) i)) →
+  pub timers-agree : (t : Time) (clocks : List ℕ) → Wrote TIMED s u → Agrees k l s → t .clock ≡ l .time .clock → Exact clocks (λ i. not (unused (u TIMER-OWNER) i)) →
       t .timers ≡ map (timerAt u) clocks → Exact (t .worn) (isWorn (u TIMER-OWNER) (u TIMER-AGE)) → Agrees k (withTime l t) u
-  timers-agree t clocks b a c x m w =
-      let q = mixed-is timerColumn s u b in
-      subst (λ (v : State). Agrees k (withTime l t) v) q
-      (mixed-time t clocks a c (subst (λ (v : State). Exact clocks (λ i. not (unused (v TIMER-OWNER) i))) (sym q) x)
-      (subst (λ (v : State). t .timers ≡ map (timerAt v) clocks) (sym q) m)
-      (subst (λ (v : State). Exact (t .worn) (isWorn (v TIMER-OWNER) (v TIMER-AGE))) (sym q) w))
+  timers-agree t clocks b a c x m w = agrees-time b a t (living b refl) refl (record { clock = c ∙ a .time .clock ∙ ap (λ (q : List ℕ). getD q 0 0) (sym (b .cols CLOCK refl)); clocks = clocks; allClocks = x; timers = m; wornClocks = w })
 
 -- ---- timers end
 module _ (k : Caps) (l : Ledger) (s u : State) (z : Sized k s) (v : InRange k) (a : Agrees k l s) where
   -- a timer of the list is in use, and its slot is one of them
-  pub clock-used : (e : ℕ) → 0 < occurs e (a .clocks) → (at s TIMER-OWNER e ≡ 0 → ⊥) × (e < k .timers)
+  pub clock-used : (e : ℕ) → 0 < occurs e (a .time .clocks) → (at s TIMER-OWNER e ≡ 0 → ⊥) × (e < k .timers)
   clock-used e o =
-      let q = exact-used (λ i. not (unused (s TIMER-OWNER) i)) (a .clocks) e (a .allClocks) o in
+      let q = exact-used (λ i. not (unused (s TIMER-OWNER) i)) (a .time .clocks) e (a .time .allClocks) o in
       let d = eqb-false (at s TIMER-OWNER e) 0 (not-true (unused (s TIMER-OWNER) e) q) in
-      (d, omega (arith, used-inside (s TIMER-OWNER) e d, z .words 38 (lit< tt)))
+      (d, omega (arith, used-inside (s TIMER-OWNER) e d, z .words TIMER-OWNER (lit< tt)))
 
   -- those that pass end on both sides
   pub timers-end-agree : (p : ℕ → Bool) (q : Timer → Bool) → TimersEnd p s u → ((e : ℕ) → (at s TIMER-OWNER e ≡ 0 → ⊥) → e < k .timers → q (timerAt s e) ≡ p e) →
       Agrees k (endTimers q l) u
   unfolding endTimers
   timers-end-agree p q t h =
-      timers-agree k l s u _ (keep (λ e. not (p e)) (a .clocks)) (t .beside) a refl
-      (ends (s TIMER-OWNER) (u TIMER-OWNER) p (t .owner) (a .clocks) (a .allClocks))
+      timers-agree k l s u _ (keep (λ e. not (p e)) (a .time .clocks)) (t .wrote) a refl
+      (ends (s TIMER-OWNER) (u TIMER-OWNER) p (t .owner) (a .time .clocks) (a .time .allClocks))
       left
-      (rw (a .timers, those-map q (timerAt s) (a .clocks), keep-same-on (λ e. q (timerAt s e)) p (a .clocks) same, map-map (λ x. x .id) (timerAt s) (keep p (a .clocks)), t .age)
-      (worn-ends (s TIMER-OWNER) (u TIMER-OWNER) p (t .owner) 64 (s TIMER-AGE) (a .clocks) (l .time .worn)
-      (λ e o. omega (arith, clock-used e o .1, v .fewTimers)) (a .allClocks) (a .wornClocks)))
+      (rw (a .time .timers, those-map q (timerAt s) (a .time .clocks), keep-same-on (λ e. q (timerAt s e)) p (a .time .clocks) same, map-map (λ x. x .id) (timerAt s) (keep p (a .time .clocks)), t .age)
+      (worn-ends (s TIMER-OWNER) (u TIMER-OWNER) p (t .owner) 64 (s TIMER-AGE) (a .time .clocks) (l .time .worn)
+      (λ e o. omega (arith, clock-used e o .1, v .fewTimers)) (a .time .allClocks) (a .time .wornClocks)))
     where
-      same : (e : ℕ) → 0 < occurs e (a .clocks) → q (timerAt s e) ≡ p e
+      same : (e : ℕ) → 0 < occurs e (a .time .clocks) → q (timerAt s e) ≡ p e
       same e o = let c = clock-used e o in h e (c .0) (c .1)
 
-      stays : (e : ℕ) → 0 < occurs e (keep (λ d. not (p d)) (a .clocks)) → timerAt s e ≡ timerAt u e
+      stays : (e : ℕ) → 0 < occurs e (keep (λ d. not (p d)) (a .time .clocks)) → timerAt s e ≡ timerAt u e
       stays e o =
-          let r = not-true (p e) (keep-in (λ d. not (p d)) (a .clocks) e o .1) in
-          rw (t .age, t .owner e, t .due e, t .interval e, t .beside AGE refl, r)
+          let r = not-true (p e) (keep-in (λ d. not (p d)) (a .time .clocks) e o .1) in
+          rw (t .age, t .owner e, t .due e, t .interval e, t .wrote .cols AGE refl, r)
 
-      left : those (λ x. not (q x)) (l .time .timers) ≡ map (timerAt u) (keep (λ e. not (p e)) (a .clocks))
+      left : those (λ x. not (q x)) (l .time .timers) ≡ map (timerAt u) (keep (λ e. not (p e)) (a .time .clocks))
       left =
-          rw (a .timers) (those-map (λ x. not (q x)) (timerAt s) (a .clocks)
-          ∙ ap (map (timerAt s)) (keep-same-on (λ e. not (q (timerAt s e))) (λ e. not (p e)) (a .clocks) (λ e o. ap not (same e o)))
-          ∙ map-same-on (timerAt s) (timerAt u) (keep (λ e. not (p e)) (a .clocks)) stays)
+          rw (a .time .timers) (those-map (λ x. not (q x)) (timerAt s) (a .time .clocks)
+          ∙ ap (map (timerAt s)) (keep-same-on (λ e. not (q (timerAt s e))) (λ e. not (p e)) (a .time .clocks) (λ e o. ap not (same e o)))
+          ∙ map-same-on (timerAt s) (timerAt u) (keep (λ e. not (p e)) (a .time .clocks)) stays)
 
 -- one timer ends
 pub disarm-agree : (k : Caps) (l : Ledger) (s : State) (i : ℕ) → Sized k s → InRange k → Agrees k l s → i < k .timers → Agrees k (endTimers (λ t. eqb (t .id) (timerId s i)) l) (disarm s i)
@@ -137,16 +104,16 @@ module _ (k : Caps) (l : Ledger) (s : State) (g : Good k s) (a : Agrees k l s) w
       Agrees k (withTime l (time (l .time .clock) (l .time .timers ++ (timer (idOf 64 (at s TIMER-AGE i + 1) i) (actorId s b) t n ∷ [])) (l .time .worn))) (arm s i b t n)
   unfolding arm poke with-col
   arm-agrees i b t n m u y =
-      timers-agree k l s (arm s i b t n) _ (a .clocks ++ (i ∷ []))
-      (λ c q. rw (apart timerColumn c 41 refl q, apart timerColumn c 40 refl q, apart timerColumn c 38 refl q, apart timerColumn c 39 refl q)) a refl
-      (begins (s TIMER-OWNER) (s TIMER-AGE) i (suc b) inside u (λ q. omega arith) (a .clocks) (a .allClocks))
-      (rw (map-append (timerAt (arm s i b t n)) (a .clocks) (i ∷ []), a .timers, map-same-on (timerAt s) (timerAt (arm s i b t n)) (a .clocks) stays, born))
-      (worn-begins (s TIMER-OWNER) (s TIMER-AGE) i (suc b) inside u (λ q. omega arith) (l .time .worn) y (a .wornClocks))
+      timers-agree k l s (arm s i b t n) _ (a .time .clocks ++ (i ∷ []))
+      (wrote-arm (wrote-none s) i b t n) a refl
+      (begins (s TIMER-OWNER) (s TIMER-AGE) i (suc b) inside u (λ q. omega arith) (a .time .clocks) (a .time .allClocks))
+      (rw (map-append (timerAt (arm s i b t n)) (a .time .clocks) (i ∷ []), a .time .timers, map-same-on (timerAt s) (timerAt (arm s i b t n)) (a .time .clocks) stays, born))
+      (worn-begins (s TIMER-OWNER) (s TIMER-AGE) i (suc b) inside u (λ q. omega arith) (l .time .worn) y (a .time .wornClocks))
     where
       inside : i < length (s TIMER-OWNER)
-      inside = omega (arith, g .sized .words 38 (lit< tt))
+      inside = omega (arith, g .sized .words TIMER-OWNER (lit< tt))
 
-      stays : (e : ℕ) → 0 < occurs e (a .clocks) → timerAt s e ≡ timerAt (arm s i b t n) e
+      stays : (e : ℕ) → 0 < occurs e (a .time .clocks) → timerAt s e ≡ timerAt (arm s i b t n) e
       stays e o =
           let c = clock-used k l s s (g .sized) (g .range) a e o in
           let q : eqb e i ≡ false = ne-eqb e i (λ z. c .0 (ap (at s TIMER-OWNER) z ∙ u)) in
@@ -155,77 +122,55 @@ module _ (k : Caps) (l : Ledger) (s : State) (g : Good k s) (a : Agrees k l s) w
       born : timerAt (arm s i b t n) i ≡ timer (idOf 64 (at s TIMER-AGE i + 1) i) (actorId s b) t n
       born =
           rw (
-            getD-set-same (s TIMER-AGE) i (at s TIMER-AGE i + 1) 0 (omega (arith, g .sized .words 39 (lit< tt))),
+            getD-set-same (s TIMER-AGE) i (at s TIMER-AGE i + 1) 0 (omega (arith, g .sized .words TIMER-AGE (lit< tt))),
             getD-set-same (s TIMER-OWNER) i (suc b) 0 inside,
-            getD-set-same (s DUE) i t 0 (omega (arith, g .sized .words 40 (lit< tt))),
-            getD-set-same (s INTERVAL) i n 0 (omega (arith, g .sized .words 41 (lit< tt))),
+            getD-set-same (s DUE) i t 0 (omega (arith, g .sized .words DUE (lit< tt))),
+            getD-set-same (s INTERVAL) i n 0 (omega (arith, g .sized .words INTERVAL (lit< tt))),
             down b,
           )
 
   -- a call that makes a timer
-  armRule-agrees : (c : Call) (delay interval : ℕ) (bad : Bool) →
-      ((r : ℕ) → done c r l ≡ withTime l (time (l .time .clock) (l .time .timers ++ (timer r (l .people .running) (l .time .clock + delay) interval ∷ [])) (l .time .worn))) →
-      Agrees k (entered (record { call = c; answer = sayMade (armRule delay interval bad k s .ans) }) l) (armRule delay interval bad k s .state)
-  unfolding armRule entered
-  armRule-agrees c delay interval bad d =
+  armed-agrees : (c : Op) (delay interval : ℕ) (bad : Bool) → ((r : ℕ) → page c .done r l ≡ armed delay interval r l) → Passed (armEntry delay interval bad .tests k s) →
+      Agrees k (entered (record { call = op c; answer = sayMade (armEntry delay interval bad .work k s .ans) }) l) (armEntry delay interval bad .work k s .state)
+  unfolding entered
+  armed-agrees c delay interval bad d p =
       let i = timerFor k s in
-      split (eqb (runner s) 0) (λ h. rw h a)
-      (λ h. rw h (split bad (λ q. rw q a)
-      (λ q. rw q (split (ltb i (k .timers))
-      (λ v. rw v
-      (let y = ltb-true i (k .timers) v in
+      let y = ltb-true i (k .timers) (held (ltb i (k .timers)) (p .1 .1 .0)) in
       let f = of-usable OLDEST (s TIMER-OWNER) (s TIMER-AGE) i (lowest-at (usable OLDEST (s TIMER-OWNER) (s TIMER-AGE)) (k .timers) y) in
       let r = idOf 64 (at s TIMER-AGE i + 1) i in
-      let e : timer r (l .people .running) (l .time .clock + delay) interval ≡ timer r (runnerId s) (head s CLOCK + delay) interval = rw (running-is k s g l a h, a .clock) in
+      let e : timer r (l .people .running) (l .time .clock + delay) interval ≡ timer r (runnerId s) (head s CLOCK + delay) interval = rw (running-is k s g l a (p .0), a .time .clock) in
       rw (d r)
       (subst (λ (x : Timer). Agrees k (withTime l (time (l .time .clock) (l .time .timers ++ (x ∷ [])) (l .time .worn))) (arm s i (runner s - 1) (head s CLOCK + delay) interval)) (sym e)
-      (arm-agrees i (runner s - 1) (head s CLOCK + delay) interval y (f .0) (f .1)))))
-      (λ v. rw v a)))))
+      (arm-agrees i (runner s - 1) (head s CLOCK + delay) interval y (f .0) (f .1)))
 
 -- "A one-shot has a delay"
-pub after-agrees : (delay : ℕ) (k : Caps) (s : State) (l : Ledger) → Good k s → Agrees k l s →
-    Agrees k (entered (record { call = after delay; answer = sayMade (afterRule delay k s .ans) }) l) (afterRule delay k s .state)
-unfolding done
-after-agrees delay k s l g a = armRule-agrees k l s g a (after delay) delay 0 (ltb LONGEST delay) (λ r. refl)
+pub after-agrees : (delay : ℕ) → Agreed (after delay)
+after-agrees delay k s l g a p = armed-agrees k l s g a (after delay) delay 0 (ltb LONGEST delay) (λ r. refl) p
 
 -- "a periodic one an interval"
-pub every-agrees : (interval : ℕ) (k : Caps) (s : State) (l : Ledger) → Good k s → Agrees k l s →
-    Agrees k (entered (record { call = every interval; answer = sayMade (everyRule interval k s .ans) }) l) (everyRule interval k s .state)
-unfolding done
-every-agrees interval k s l g a = armRule-agrees k l s g a (every interval) interval interval (eqb interval 0 || ltb LONGEST interval) (λ r. refl)
+pub every-agrees : (interval : ℕ) → Agreed (every interval)
+every-agrees interval k s l g a p = armed-agrees k l s g a (every interval) interval interval (eqb interval 0 || ltb LONGEST interval) (λ r. refl) p
 
 -- "a monitor or timer only its owner, by its id"
-pub cancel-agrees : (id : ℕ) (k : Caps) (s : State) (l : Ledger) → Good k s → Agrees k l s →
-    Agrees k (entered (record { call = cancel id; answer = plain (cancelRule id k s .ans) }) l) (cancelRule id k s .state)
-unfolding cancelRule entered done
-cancel-agrees id k s l g a =
-    split (eqb (runner s) 0) (λ h. rw h a)
-    (λ h. rw h (split (isTimer s id && eqb (at s TIMER-OWNER (slotOf 64 id)) (runner s))
-    (λ q. rw q
-    (let t = and-left (isTimer s id) (eqb (at s TIMER-OWNER (slotOf 64 id)) (runner s)) q in
+pub cancel-agrees : (id : ℕ) → Agreed (cancel id)
+unfolding entered
+cancel-agrees id k s l g a p =
+    let there = isTimer s id in
+    let mine = eqb (at s TIMER-OWNER (slotOf 64 id)) (runner s) in
+    let t = and-left there mine (held (there && mine) (p .1 .0)) in
     let e : id ≡ timerId s (slotOf 64 id) = live-is 64 (s TIMER-OWNER) (s TIMER-AGE) id (omega arith) t in
-    subst (λ (x : ℕ). Agrees k (endTimers (λ t. eqb (t .id) x) l) (disarm s (slotOf 64 id))) (sym e) (disarm-agrees k l s (slotOf 64 id) g a (timer-slot k s g id t))))
-    (λ q. rw q a)))
+    subst (λ (x : ℕ). Agrees k (endTimers (λ t. eqb (t .id) x) l) (disarm s (slotOf 64 id))) (sym e) (disarm-agrees k l s (slotOf 64 id) g a (timer-slot k s g id t))
 
 -- ---- "no room"
--- the number 2 exactly where the test holds
-two-no : (n : ℕ) → (n ≡ 2 → ⊥) → (n ≡ 2) ↔ (false ≡ true)
-two-no n h = (λ e. absurd (h e), λ e. true-false false e refl)
-
--- the number 2 where it does
-two-yes : (n : ℕ) → n ≡ 2 → (n ≡ 2) ↔ (true ≡ true)
-two-yes n h = (λ e. refl, λ e. h)
-
 module _ (k : Caps) (l : Ledger) (s : State) (g : Good k s) (a : Agrees k l s) where
   -- a call that makes a timer
-  armRule-short : (delay interval : ℕ) (bad : Bool) → (armRule delay interval bad k s .ans .no ≡ 2) ↔ (not (idle l) && (not bad && eqb (timersLeft l) 0) ≡ true)
-  unfolding armRule
-  armRule-short delay interval bad =
+  arm-says : (delay interval : ℕ) (bad : Bool) → says (λ n. n) 2 (armEntry delay interval bad .tests k s) ≡ not (idle l) && (not bad && eqb (timersLeft l) 0)
+  arm-says delay interval bad =
       rw (← idle-same k s g l a)
-      (split (eqb (runner s) 0) (λ h. rw h (two-no 4 (λ e. omega arith)))
-      (λ h. rw h (split bad (λ q. rw q (two-no 1 (λ e. omega arith)))
+      (split (eqb (runner s) 0) (λ h. rw h)
+      (λ h. rw h (split bad (λ q. rw q)
       (λ q. rw (q, room-same (usable OLDEST (s TIMER-OWNER) (s TIMER-AGE)) (k .timers) (timersLeft l) (timers-left k s g l a))
-      (split (eqb (timersLeft l) 0) (λ v. rw v (two-yes 2 refl)) (λ v. rw v (two-no 0 (λ e. omega arith))))))))
+      (split (eqb (timersLeft l) 0) (λ v. rw v) (λ v. rw v))))))
 
 -- a delay is malformed above the longest
 pub longest : (n : ℕ) → ltb n (2 ^ 32) ≡ not (ltb LONGEST n)
@@ -233,58 +178,21 @@ longest n =
     split (ltb LONGEST n) (λ q. rw q (le-ltb n (2 ^ 32) (omega (arith, ltb-true LONGEST n q)))) (λ q. rw q (lt-ltb n (2 ^ 32) (omega (arith, ltb-false LONGEST n q))))
 
 -- a one-shot is refused for want of room exactly where the reckoning says so
-pub after-short : (delay : ℕ) (k : Caps) (s : State) (l : Ledger) → Good k s → Agrees k l s → (afterRule delay k s .ans .no ≡ 2) ↔ (short l (after delay) ≡ true)
-unfolding short
-after-short delay k s l g a = rw (longest delay) (armRule-short k l s g a delay 0 (ltb LONGEST delay))
+pub after-short : (delay : ℕ) → Short (after delay)
+after-short delay k s l g a = rw (longest delay) (arm-says k l s g a delay 0 (ltb LONGEST delay))
 
 -- and a periodic one
-pub every-short : (interval : ℕ) (k : Caps) (s : State) (l : Ledger) → Good k s → Agrees k l s → (everyRule interval k s .ans .no ≡ 2) ↔ (short l (every interval) ≡ true)
-unfolding short
+pub every-short : (interval : ℕ) → Short (every interval)
 every-short interval k s l g a =
     let e : not (eqb interval 0) && (not (ltb LONGEST interval) && eqb (timersLeft l) 0) ≡ not (eqb interval 0 || ltb LONGEST interval) && eqb (timersLeft l) 0 = split (eqb interval 0) (λ q. rw q) (λ q. rw q) in
-    rw (longest interval, e) (armRule-short k l s g a interval interval (eqb interval 0 || ltb LONGEST interval))
+    rw (longest interval, e) (arm-says k l s g a interval interval (eqb interval 0 || ltb LONGEST interval))
 
 -- ---- the links' columns alone differ
 module _ (k : Caps) (l : Ledger) (s u : State) where
-  -- the links of u, and all else of s
-  mixed-bonds : (links : List Link) (bonds : List ℕ) → Agrees k l s → Exact bonds (λ i. not (unused (mixed linkColumn s u LINK-ONE) i)) →
-      links ≡ map (linkAt (mixed linkColumn s u)) bonds → Agrees k (withTies l (ties links (l .ties .monitors) (l .ties .worn))) (mixed linkColumn s u)
-  unfolding mixed
-  mixed-bonds links bonds a x m = record {
-    sizes = a .sizes;
-    clock = a .clock;
-    running = a .running;
-    slots = a .slots;
-    allSlots = a .allSlots;
-    live = a .live;
-    wornSlots = a .wornSlots;
-    allBoxes = a .allBoxes;
-    boxes = a .boxes;
-    palms = a .palms;
-    allPalms = a .allPalms;
-    hands = a .hands;
-    allDatas = a .allDatas;
-    clocks = a .clocks;
-    allClocks = a .allClocks;
-    timers = a .timers;
-    wornClocks = a .wornClocks;
-    bonds = bonds;
-    allBonds = x;
-    links = m;
-    eyes = a .eyes;
-    allEyes = a .allEyes;
-    monitors = a .monitors;
-    wornEyes = a .wornEyes;
-  }
-
   -- a state that differs in its links alone is what the reckoning says with other links
-  pub links-agree : (links : List Link) (bonds : List ℕ) → Beside linkColumn s u → Agrees k l s → Exact bonds (λ i. not (unused (u LINK-ONE) i)) →
+  pub links-agree : (links : List Link) (bonds : List ℕ) → Wrote LINKED s u → Agrees k l s → Exact bonds (λ i. not (unused (u LINK-ONE) i)) →
       links ≡ map (linkAt u) bonds → Agrees k (withTies l (ties links (l .ties .monitors) (l .ties .worn))) u
-  links-agree links bonds b a x m =
-      let q = mixed-is linkColumn s u b in
-      subst (λ (v : State). Agrees k (withTies l (ties links (l .ties .monitors) (l .ties .worn))) v) q
-      (mixed-bonds links bonds a (subst (λ (v : State). Exact bonds (λ i. not (unused (v LINK-ONE) i))) (sym q) x)
-      (subst (λ (v : State). links ≡ map (linkAt v) bonds) (sym q) m))
+  links-agree links bonds b a x m = agrees-links b a links (living b refl) refl (record { bonds = bonds; allBonds = x; links = m })
 
 -- a slot down is a slot where the slot is that one up
 up-eqb : (x b : ℕ) → 1 ≤ x → eqb (x - 1) b ≡ eqb x (suc b)
@@ -293,11 +201,11 @@ up-eqb x b h =
 
 module _ (k : Caps) (l : Ledger) (s : State) (g : Good k s) (a : Agrees k l s) where
   -- a link of the list is in use, and its entry is one of them
-  pub bond-used : (e : ℕ) → 0 < occurs e (a .bonds) → (at s LINK-ONE e ≡ 0 → ⊥) × (e < k .links)
+  pub bond-used : (e : ℕ) → 0 < occurs e (a .links .bonds) → (at s LINK-ONE e ≡ 0 → ⊥) × (e < k .links)
   bond-used e o =
-      let q = exact-used (λ i. not (unused (s LINK-ONE) i)) (a .bonds) e (a .allBonds) o in
+      let q = exact-used (λ i. not (unused (s LINK-ONE) i)) (a .links .bonds) e (a .links .allBonds) o in
       let d = eqb-false (at s LINK-ONE e) 0 (not-true (unused (s LINK-ONE) e) q) in
-      (d, omega (arith, used-inside (s LINK-ONE) e d, g .sized .words 33 (lit< tt)))
+      (d, omega (arith, used-inside (s LINK-ONE) e d, g .sized .words LINK-ONE (lit< tt)))
 
   -- a slot one up that is alive is that of a live actor exactly where the ids are the same
   pub up-id : (x b : ℕ) → 1 ≤ x → alive (s STATE) (x - 1) ≡ true → alive (s STATE) b ≡ true → eqb (actorId s (x - 1)) (actorId s b) ≡ eqb x (suc b)
@@ -316,15 +224,15 @@ module _ (k : Caps) (l : Ledger) (s : State) (g : Good k s) (a : Agrees k l s) w
   linked-same b c p q =
       let t = joins (s LINK-ONE) (s LINK-TWO) (suc b) (suc c) in
       let i = linkOf k s (suc b) (suc c) in
-      rw (a .links, some-map (Reckon.joins (actorId s b) (actorId s c)) (linkAt s) (a .bonds))
+      rw (a .links .links, some-map (Reckon.joins (actorId s b) (actorId s c)) (linkAt s) (a .links .bonds))
       (split (ltb i (k .links))
       (λ v.
       let m = ltb-true i (k .links) v in
       let y : t i ≡ true = lowest-at t (k .links) m in
       let d : at s LINK-ONE i ≡ 0 → ⊥ = λ z. true-false (t i) y (joins-none (s LINK-ONE) (s LINK-TWO) (suc b) (suc c) i (λ e. omega arith) (λ e. omega arith) z) in
-      let o : 0 < occurs i (a .bonds) = rw (a .allBonds i, ne-eqb (at s LINK-ONE i) 0 d) (omega arith) in
-      rw v (some-yes (λ e. Reckon.joins (actorId s b) (actorId s c) (linkAt s e)) (a .bonds) i o (bond-joins b c i p q d m ∙ y)))
-      (λ v. rw v (some-no (λ e. Reckon.joins (actorId s b) (actorId s c) (linkAt s e)) (a .bonds) (λ e o.
+      let o : 0 < occurs i (a .links .bonds) = rw (a .links .allBonds i, ne-eqb (at s LINK-ONE i) 0 d) (omega arith) in
+      rw v (some-yes (λ e. Reckon.joins (actorId s b) (actorId s c) (linkAt s e)) (a .links .bonds) i o (bond-joins b c i p q d m ∙ y)))
+      (λ v. rw v (some-no (λ e. Reckon.joins (actorId s b) (actorId s c) (linkAt s e)) (a .links .bonds) (λ e o.
       let f = bond-used e o in
       bond-joins b c e p q (f .0) (f .1) ∙ lowest-first t (k .links) e (omega (arith, ltb-false i (k .links) v, f .1))))))
 
@@ -346,35 +254,35 @@ module _ (k : Caps) (l : Ledger) (s : State) (g : Good k s) (a : Agrees k l s) w
       Agrees k (withTies l (ties (l .ties .links ++ (record { one = actorId s (b - 1); two = actorId s (c - 1) } ∷ [])) (l .ties .monitors) (l .ties .worn))) (tie s e b c)
   unfolding tie poke with-col
   tie-agrees e b c m u n =
-      links-agree k l s (tie s e b c) _ (a .bonds ++ (e ∷ [])) (tie-beside k s g e b c) a
-      (begins (s LINK-ONE) (s LINK-ONE) e b inside u n (a .bonds) (a .allBonds))
-      (rw (map-append (linkAt (tie s e b c)) (a .bonds) (e ∷ []), a .links, map-same-on (linkAt s) (linkAt (tie s e b c)) (a .bonds) stays, born))
+      links-agree k l s (tie s e b c) _ (a .links .bonds ++ (e ∷ [])) (wrote-tie (wrote-none s) e b c) a
+      (begins (s LINK-ONE) (s LINK-ONE) e b inside u n (a .links .bonds) (a .links .allBonds))
+      (rw (map-append (linkAt (tie s e b c)) (a .links .bonds) (e ∷ []), a .links .links, map-same-on (linkAt s) (linkAt (tie s e b c)) (a .links .bonds) stays, born))
     where
       inside : e < length (s LINK-ONE)
-      inside = omega (arith, g .sized .words 33 (lit< tt))
+      inside = omega (arith, g .sized .words LINK-ONE (lit< tt))
 
-      stays : (d : ℕ) → 0 < occurs d (a .bonds) → linkAt s d ≡ linkAt (tie s e b c) d
+      stays : (d : ℕ) → 0 < occurs d (a .links .bonds) → linkAt s d ≡ linkAt (tie s e b c) d
       stays d o =
           let f = bond-used d o in
           let q : eqb d e ≡ false = ne-eqb d e (λ z. f .0 (ap (at s LINK-ONE) z ∙ u)) in
           rw (other (s LINK-ONE) e b d q, other (s LINK-TWO) e c d q)
 
       born : linkAt (tie s e b c) e ≡ record { one = actorId s (b - 1); two = actorId s (c - 1) }
-      born = rw (getD-set-same (s LINK-ONE) e b 0 inside, getD-set-same (s LINK-TWO) e c 0 (omega (arith, g .sized .words 34 (lit< tt))))
+      born = rw (getD-set-same (s LINK-ONE) e b 0 inside, getD-set-same (s LINK-TWO) e c 0 (omega (arith, g .sized .words LINK-TWO (lit< tt))))
 
   -- a link ends
   pub untie-agrees : (e : ℕ) (q : Link → Bool) → e < k .links → ((d : ℕ) → (at s LINK-ONE d ≡ 0 → ⊥) → d < k .links → q (linkAt s d) ≡ eqb d e) → Agrees k (endLinks q l) (tie s e 0 0)
   unfolding endLinks tie poke with-col
   untie-agrees e q m h =
-      links-agree k l s (tie s e 0 0) _ (keep (λ d. not (eqb d e)) (a .bonds)) (tie-beside k s g e 0 0) a
-      (ends (s LINK-ONE) (set (s LINK-ONE) e 0) (λ d. eqb d e) (λ d. set-cond (s LINK-ONE) e 0 d (omega (arith, g .sized .words 33 (lit< tt)))) (a .bonds) (a .allBonds))
-      (rw (a .links) (those-map (λ x. not (q x)) (linkAt s) (a .bonds)
-      ∙ ap (map (linkAt s)) (keep-same-on (λ d. not (q (linkAt s d))) (λ d. not (eqb d e)) (a .bonds) (λ d o. let f = bond-used d o in ap not (h d (f .0) (f .1))))
-      ∙ map-same-on (linkAt s) (linkAt (tie s e 0 0)) (keep (λ d. not (eqb d e)) (a .bonds)) stays))
+      links-agree k l s (tie s e 0 0) _ (keep (λ d. not (eqb d e)) (a .links .bonds)) (wrote-tie (wrote-none s) e 0 0) a
+      (ends (s LINK-ONE) (set (s LINK-ONE) e 0) (λ d. eqb d e) (λ d. set-cond (s LINK-ONE) e 0 d (omega (arith, g .sized .words LINK-ONE (lit< tt)))) (a .links .bonds) (a .links .allBonds))
+      (rw (a .links .links) (those-map (λ x. not (q x)) (linkAt s) (a .links .bonds)
+      ∙ ap (map (linkAt s)) (keep-same-on (λ d. not (q (linkAt s d))) (λ d. not (eqb d e)) (a .links .bonds) (λ d o. let f = bond-used d o in ap not (h d (f .0) (f .1))))
+      ∙ map-same-on (linkAt s) (linkAt (tie s e 0 0)) (keep (λ d. not (eqb d e)) (a .links .bonds)) stays))
     where
-      stays : (d : ℕ) → 0 < occurs d (keep (λ d. not (eqb d e)) (a .bonds)) → linkAt s d ≡ linkAt (tie s e 0 0) d
+      stays : (d : ℕ) → 0 < occurs d (keep (λ d. not (eqb d e)) (a .links .bonds)) → linkAt s d ≡ linkAt (tie s e 0 0) d
       stays d o =
-          let r = not-true (eqb d e) (keep-in (λ d. not (eqb d e)) (a .bonds) d o .1) in
+          let r = not-true (eqb d e) (keep-in (λ d. not (eqb d e)) (a .links .bonds) d o .1) in
           rw (other (s LINK-ONE) e 0 d r, other (s LINK-TWO) e 0 d r)
 
 module _ (k : Caps) (l : Ledger) (s : State) (g : Good k s) (a : Agrees k l s) where
@@ -387,62 +295,50 @@ module _ (k : Caps) (l : Ledger) (s : State) (g : Good k s) (a : Agrees k l s) w
       ∙ ap (λ (x : ℕ). ltb (linkOf k s x (suc (slotOf 64 id))) (k .links)) up
 
 -- "Linking a pair already linked answers 0 and changes nothing"
-pub link-agrees : (partner : ℕ) (k : Caps) (s : State) (l : Ledger) → Good k s → Agrees k l s →
-    Agrees k (entered (record { call = link partner; answer = plain (linkRule partner k s .ans) }) l) (linkRule partner k s .state)
-unfolding linkRule entered done
-link-agrees partner k s l g a =
+pub link-agrees : (partner : ℕ) → Agreed (link partner)
+unfolding entered
+link-agrees partner k s l g a p =
     let b = suc (slotOf 64 partner) in
-    split (eqb (runner s) 0) (λ h. rw h a)
-    (λ h. rw h (split (eqb partner (runnerId s)) (λ q. rw q a)
-    (λ q. rw q (split (isActor s partner)
-    (λ r. let e = linked-run k l s g a partner h r in
-    rw r (split (ltb (linkOf k s (runner s) b) (k .links)) (λ v. rw (v, e ∙ v) a)
-    (λ v. rw v (split (ltb (linkFor k s) (k .links))
-    (λ w. rw (w, e ∙ v)
-    (let x : linkFor k s < k .links = ltb-true (linkFor k s) (k .links) w in
+    let h = p .0 in
+    let r = held (isActor s partner) (p .1 .1 .0) in
+    let e = linked-run k l s g a partner h r in
+    split (ltb (linkOf k s (runner s) b) (k .links)) (λ v. rw (v, e ∙ v) a)
+    (λ v. let w : not (ltb (linkFor k s) (k .links)) ≡ false = rw v at (p .1 .1 .1 .0) in
+    let x : linkFor k s < k .links = ltb-true (linkFor k s) (k .links) (held (ltb (linkFor k s) (k .links)) w) in
     let z : _≡_ {A = Link} (record { one = l .people .running; two = partner }) (record { one = actorId s (runner s - 1); two = actorId s (b - 1) }) =
     both (running-is k s g l a h) (live-is 64 (s STATE) (s AGE) partner (omega arith) r ∙ ap (actorId s) (sym (down (slotOf 64 partner)))) in
-    subst (λ (x : Link). Agrees k (withTies l (ties (l .ties .links ++ (x ∷ [])) (l .ties .monitors) (l .ties .worn))) (tie s (linkFor k s) (runner s) b)) (sym z)
+    rw (v, e ∙ v) (subst (λ (x : Link). Agrees k (withTies l (ties (l .ties .links ++ (x ∷ [])) (l .ties .monitors) (l .ties .worn))) (tie s (linkFor k s) (runner s) b)) (sym z)
     (tie-agrees k l s g a (linkFor k s) (runner s) b x (eqb-true (at s LINK-ONE (linkFor k s)) 0 (lowest-at (unused (s LINK-ONE)) (k .links) x)) (eqb-false (runner s) 0 h))))
-    (λ w. rw w a)))))
-    (λ r. rw r a)))))
   where
     -- links with the same ends
     both : {i j x y : ℕ} → i ≡ x → j ≡ y → _≡_ {A = Link} (record { one = i; two = j }) (record { one = x; two = y })
     both p q = rw (p, q)
 
 -- a link is refused for want of room exactly where the reckoning says so
-pub link-short : (partner : ℕ) (k : Caps) (s : State) (l : Ledger) → Good k s → Agrees k l s → (linkRule partner k s .ans ≡ 2) ↔ (short l (link partner) ≡ true)
-unfolding linkRule short
+pub link-short : (partner : ℕ) → Short (link partner)
 link-short partner k s l g a =
     let b = suc (slotOf 64 partner) in
     rw (← idle-same k s g l a, ← known-same k s g l a partner)
-    (split (eqb (runner s) 0) (λ h. rw h (two-no 4 (λ e. omega arith)))
+    (split (eqb (runner s) 0) (λ h. rw h)
     (λ h. let n : eqb partner (l .people .running) ≡ eqb partner (runnerId s) = ap (eqb partner) (running-is k s g l a h) in
-    rw (h, n) (split (eqb partner (runnerId s)) (λ q. rw q (two-no 1 (λ e. omega arith)))
+    rw (h, n) (split (eqb partner (runnerId s)) (λ q. rw q)
     (λ q. rw q (split (isActor s partner)
     (λ r. rw (r, linked-run k l s g a partner h r)
-    (split (ltb (linkOf k s (runner s) b) (k .links)) (λ v. rw v (two-no 0 (λ e. omega arith)))
-    (λ v. rw (v, room-same (unused (s LINK-ONE)) (k .links) (linksLeft l) (links-left k s g l a))
-    (split (eqb (linksLeft l) 0) (λ w. rw w (two-yes 2 refl)) (λ w. rw w (two-no 0 (λ e. omega arith)))))))
-    (λ r. rw r (two-no 3 (λ e. omega arith))))))))
+    (split (ltb (linkOf k s (runner s) b) (k .links)) (λ v. rw v)
+    (λ v. rw (v, room-same (unused (s LINK-ONE)) (k .links) (linksLeft l) (links-left k s g l a)) (split (eqb (linksLeft l) 0) (λ w. rw w) (λ w. rw w)))))
+    (λ r. rw r))))))
 
 -- "Either end may take a link back by the partner's id"
-pub unlink-agrees : (partner : ℕ) (k : Caps) (s : State) (l : Ledger) → Good k s → Agrees k l s →
-    Agrees k (entered (record { call = unlink partner; answer = plain (unlinkRule partner k s .ans) }) l) (unlinkRule partner k s .state)
-unfolding unlinkRule entered done
-unlink-agrees partner k s l g a =
-    let b = suc (slotOf 64 partner) in
-    let i = linkOf k s (runner s) b in
-    split (eqb (runner s) 0) (λ h. rw h a)
-    (λ h. rw h (split (isActor s partner && ltb i (k .links))
-    (λ q. rw q
-    (let r = and-left (isActor s partner) (ltb i (k .links)) q in
+pub unlink-agrees : (partner : ℕ) → Agreed (unlink partner)
+unfolding entered
+unlink-agrees partner k s l g a p =
+    let i = linkOf k s (runner s) (suc (slotOf 64 partner)) in
+    let q = held (isActor s partner && ltb i (k .links)) (p .1 .0) in
+    let r = and-left (isActor s partner) (ltb i (k .links)) q in
     let m = ltb-true i (k .links) (and-right (isActor s partner) (ltb i (k .links)) q) in
     untie-agrees k l s g a i (Reckon.joins (l .people .running) partner) m (λ d u n.
-    ap₂ (λ (x : ℕ) (y : ℕ). Reckon.joins x y (linkAt s d)) (running-is k s g l a h) (live-is 64 (s STATE) (s AGE) partner (omega arith) r)
-    ∙ once k l s g a partner h r m d u n)))
-    (λ q. rw q a)))
+    ap₂ (λ (x : ℕ) (y : ℕ). Reckon.joins x y (linkAt s d)) (running-is k s g l a (p .0)) (live-is 64 (s STATE) (s AGE) partner (omega arith) r)
+    ∙ once k l s g a partner (p .0) r m d u n)
   where
     -- no other link joins the two
     once : (k : Caps) (l : Ledger) (s : State) (g : Good k s) (a : Agrees k l s) (partner : ℕ) → eqb (runner s) 0 ≡ false → isActor s partner ≡ true → linkOf k s (runner s) (suc (slotOf 64 partner)) < k .links →
@@ -454,82 +350,45 @@ unlink-agrees partner k s l g a =
 
 -- ---- the monitors' columns alone differ
 module _ (k : Caps) (l : Ledger) (s u : State) where
-  -- the monitors of u, and all else of s
-  mixed-eyes : (monitors : List Monitor) (worn eyes : List ℕ) → Agrees k l s → Exact eyes (λ i. not (unused (mixed monitorColumn s u WATCHER) i)) →
-      monitors ≡ map (monitorAt (mixed monitorColumn s u)) eyes → Exact worn (isWorn (mixed monitorColumn s u WATCHER) (mixed monitorColumn s u MONITOR-AGE)) →
-      Agrees k (withTies l (ties (l .ties .links) monitors worn)) (mixed monitorColumn s u)
-  unfolding mixed
-  mixed-eyes monitors worn eyes a x m w = record {
-    sizes = a .sizes;
-    clock = a .clock;
-    running = a .running;
-    slots = a .slots;
-    allSlots = a .allSlots;
-    live = a .live;
-    wornSlots = a .wornSlots;
-    allBoxes = a .allBoxes;
-    boxes = a .boxes;
-    palms = a .palms;
-    allPalms = a .allPalms;
-    hands = a .hands;
-    allDatas = a .allDatas;
-    clocks = a .clocks;
-    allClocks = a .allClocks;
-    timers = a .timers;
-    wornClocks = a .wornClocks;
-    bonds = a .bonds;
-    allBonds = a .allBonds;
-    links = a .links;
-    eyes = eyes;
-    allEyes = x;
-    monitors = m;
-    wornEyes = w;
-  }
-
   -- a state that differs in its monitors alone is what the reckoning says with other monitors
-  pub monitors-agree : (monitors : List Monitor) (worn eyes : List ℕ) → Beside monitorColumn s u → Agrees k l s → Exact eyes (λ i. not (unused (u WATCHER) i)) →
+  pub monitors-agree : (monitors : List Monitor) (worn eyes : List ℕ) → Wrote WATCHES s u → Agrees k l s → Exact eyes (λ i. not (unused (u WATCHER) i)) →
       monitors ≡ map (monitorAt u) eyes → Exact worn (isWorn (u WATCHER) (u MONITOR-AGE)) → Agrees k (withTies l (ties (l .ties .links) monitors worn)) u
-  monitors-agree monitors worn eyes b a x m w =
-      let q = mixed-is monitorColumn s u b in
-      subst (λ (v : State). Agrees k (withTies l (ties (l .ties .links) monitors worn)) v) q
-      (mixed-eyes monitors worn eyes a (subst (λ (v : State). Exact eyes (λ i. not (unused (v WATCHER) i))) (sym q) x)
-      (subst (λ (v : State). monitors ≡ map (monitorAt v) eyes) (sym q) m)
-      (subst (λ (v : State). Exact worn (isWorn (v WATCHER) (v MONITOR-AGE))) (sym q) w))
+  monitors-agree monitors worn eyes b a x m w = agrees-monitors b a monitors worn (living b refl) refl (record { eyes = eyes; allEyes = x; monitors = m; wornEyes = w })
 
 -- ---- monitors end
 module _ (k : Caps) (l : Ledger) (s u : State) (g : Good k s) (a : Agrees k l s) where
   -- a monitor of the list is in use, and its slot is one of them
-  pub eye-used : (e : ℕ) → 0 < occurs e (a .eyes) → (at s WATCHER e ≡ 0 → ⊥) × (e < k .monitors)
+  pub eye-used : (e : ℕ) → 0 < occurs e (a .monitors .eyes) → (at s WATCHER e ≡ 0 → ⊥) × (e < k .monitors)
   eye-used e o =
-      let q = exact-used (λ i. not (unused (s WATCHER) i)) (a .eyes) e (a .allEyes) o in
+      let q = exact-used (λ i. not (unused (s WATCHER) i)) (a .monitors .eyes) e (a .monitors .allEyes) o in
       let d = eqb-false (at s WATCHER e) 0 (not-true (unused (s WATCHER) e) q) in
-      (d, omega (arith, used-inside (s WATCHER) e d, g .sized .words 35 (lit< tt)))
+      (d, omega (arith, used-inside (s WATCHER) e d, g .sized .words WATCHER (lit< tt)))
 
   -- those that pass end on both sides
   pub monitors-end-agree : (p : ℕ → Bool) (q : Monitor → Bool) → MonitorsEnd p s u → ((e : ℕ) → (at s WATCHER e ≡ 0 → ⊥) → e < k .monitors → q (monitorAt s e) ≡ p e) →
       Agrees k (endMonitors q l) u
   unfolding endMonitors
   monitors-end-agree p q t h =
-      monitors-agree k l s u _ _ (keep (λ e. not (p e)) (a .eyes)) (t .beside) a
-      (ends (s WATCHER) (u WATCHER) p (t .watcher) (a .eyes) (a .allEyes))
+      monitors-agree k l s u _ _ (keep (λ e. not (p e)) (a .monitors .eyes)) (t .wrote) a
+      (ends (s WATCHER) (u WATCHER) p (t .watcher) (a .monitors .eyes) (a .monitors .allEyes))
       left
-      (rw (a .monitors, those-map q (monitorAt s) (a .eyes), keep-same-on (λ e. q (monitorAt s e)) p (a .eyes) same, map-map (λ x. x .id) (monitorAt s) (keep p (a .eyes)), t .age)
-      (worn-ends (s WATCHER) (u WATCHER) p (t .watcher) 128 (s MONITOR-AGE) (a .eyes) (l .ties .worn)
-      (λ e o. omega (arith, eye-used e o .1, g .range .fewMonitors)) (a .allEyes) (a .wornEyes)))
+      (rw (a .monitors .monitors, those-map q (monitorAt s) (a .monitors .eyes), keep-same-on (λ e. q (monitorAt s e)) p (a .monitors .eyes) same, map-map (λ x. x .id) (monitorAt s) (keep p (a .monitors .eyes)), t .age)
+      (worn-ends (s WATCHER) (u WATCHER) p (t .watcher) 128 (s MONITOR-AGE) (a .monitors .eyes) (l .ties .worn)
+      (λ e o. omega (arith, eye-used e o .1, g .range .fewMonitors)) (a .monitors .allEyes) (a .monitors .wornEyes)))
     where
-      same : (e : ℕ) → 0 < occurs e (a .eyes) → q (monitorAt s e) ≡ p e
+      same : (e : ℕ) → 0 < occurs e (a .monitors .eyes) → q (monitorAt s e) ≡ p e
       same e o = let c = eye-used e o in h e (c .0) (c .1)
 
-      stays : (e : ℕ) → 0 < occurs e (keep (λ d. not (p d)) (a .eyes)) → monitorAt s e ≡ monitorAt u e
+      stays : (e : ℕ) → 0 < occurs e (keep (λ d. not (p d)) (a .monitors .eyes)) → monitorAt s e ≡ monitorAt u e
       stays e o =
-          let r = not-true (p e) (keep-in (λ d. not (p d)) (a .eyes) e o .1) in
-          rw (t .age, t .watcher e, t .watched e, t .beside AGE refl, r)
+          let r = not-true (p e) (keep-in (λ d. not (p d)) (a .monitors .eyes) e o .1) in
+          rw (t .age, t .watcher e, t .watched e, t .wrote .cols AGE refl, r)
 
-      left : those (λ x. not (q x)) (l .ties .monitors) ≡ map (monitorAt u) (keep (λ e. not (p e)) (a .eyes))
+      left : those (λ x. not (q x)) (l .ties .monitors) ≡ map (monitorAt u) (keep (λ e. not (p e)) (a .monitors .eyes))
       left =
-          rw (a .monitors) (those-map (λ x. not (q x)) (monitorAt s) (a .eyes)
-          ∙ ap (map (monitorAt s)) (keep-same-on (λ e. not (q (monitorAt s e))) (λ e. not (p e)) (a .eyes) (λ e o. ap not (same e o)))
-          ∙ map-same-on (monitorAt s) (monitorAt u) (keep (λ e. not (p e)) (a .eyes)) stays)
+          rw (a .monitors .monitors) (those-map (λ x. not (q x)) (monitorAt s) (a .monitors .eyes)
+          ∙ ap (map (monitorAt s)) (keep-same-on (λ e. not (q (monitorAt s e))) (λ e. not (p e)) (a .monitors .eyes) (λ e o. ap not (same e o)))
+          ∙ map-same-on (monitorAt s) (monitorAt u) (keep (λ e. not (p e)) (a .monitors .eyes)) stays)
 
 -- one monitor ends
 pub unwatch-agrees : (k : Caps) (l : Ledger) (s : State) (i : ℕ) → Good k s → Agrees k l s → i < k .monitors → Agrees k (endMonitors (λ m. eqb (m .id) (monitorId s i)) l) (unwatch s i)
@@ -544,16 +403,16 @@ module _ (k : Caps) (l : Ledger) (s : State) (g : Good k s) (a : Agrees k l s) w
       Agrees k (withTies l (ties (l .ties .links) (l .ties .monitors ++ (record { id = idOf 128 (at s MONITOR-AGE i + 1) i; watcher = actorId s (b - 1); target = actorId s (c - 1) } ∷ [])) (l .ties .worn))) (watch s i b c)
   unfolding watch poke with-col
   watch-agrees i b c m u y n =
-      monitors-agree k l s (watch s i b c) _ (l .ties .worn) (a .eyes ++ (i ∷ []))
-      (λ c q. rw (apart monitorColumn c 36 refl q, apart monitorColumn c 35 refl q, apart monitorColumn c 37 refl q)) a
-      (begins (s WATCHER) (s MONITOR-AGE) i b inside u n (a .eyes) (a .allEyes))
-      (rw (map-append (monitorAt (watch s i b c)) (a .eyes) (i ∷ []), a .monitors, map-same-on (monitorAt s) (monitorAt (watch s i b c)) (a .eyes) stays, born))
-      (worn-begins (s WATCHER) (s MONITOR-AGE) i b inside u n (l .ties .worn) y (a .wornEyes))
+      monitors-agree k l s (watch s i b c) _ (l .ties .worn) (a .monitors .eyes ++ (i ∷ []))
+      (wrote-watch (wrote-none s) i b c) a
+      (begins (s WATCHER) (s MONITOR-AGE) i b inside u n (a .monitors .eyes) (a .monitors .allEyes))
+      (rw (map-append (monitorAt (watch s i b c)) (a .monitors .eyes) (i ∷ []), a .monitors .monitors, map-same-on (monitorAt s) (monitorAt (watch s i b c)) (a .monitors .eyes) stays, born))
+      (worn-begins (s WATCHER) (s MONITOR-AGE) i b inside u n (l .ties .worn) y (a .monitors .wornEyes))
     where
       inside : i < length (s WATCHER)
-      inside = omega (arith, g .sized .words 35 (lit< tt))
+      inside = omega (arith, g .sized .words WATCHER (lit< tt))
 
-      stays : (e : ℕ) → 0 < occurs e (a .eyes) → monitorAt s e ≡ monitorAt (watch s i b c) e
+      stays : (e : ℕ) → 0 < occurs e (a .monitors .eyes) → monitorAt s e ≡ monitorAt (watch s i b c) e
       stays e o =
           let f = eye-used k l s s g a e o in
           let q : eqb e i ≡ false = ne-eqb e i (λ z. f .0 (ap (at s WATCHER) z ∙ u)) in
@@ -562,60 +421,47 @@ module _ (k : Caps) (l : Ledger) (s : State) (g : Good k s) (a : Agrees k l s) w
       born : monitorAt (watch s i b c) i ≡ record { id = idOf 128 (at s MONITOR-AGE i + 1) i; watcher = actorId s (b - 1); target = actorId s (c - 1) }
       born =
           rw (
-            getD-set-same (s MONITOR-AGE) i (at s MONITOR-AGE i + 1) 0 (omega (arith, g .sized .words 37 (lit< tt))),
+            getD-set-same (s MONITOR-AGE) i (at s MONITOR-AGE i + 1) 0 (omega (arith, g .sized .words MONITOR-AGE (lit< tt))),
             getD-set-same (s WATCHER) i b 0 inside,
-            getD-set-same (s WATCHED) i c 0 (omega (arith, g .sized .words 36 (lit< tt))),
+            getD-set-same (s WATCHED) i c 0 (omega (arith, g .sized .words WATCHED (lit< tt))),
           )
 
 -- "Linking to oneself or monitoring oneself is malformed"
-pub monitor-agrees : (target : ℕ) (k : Caps) (s : State) (l : Ledger) → Good k s → Agrees k l s →
-    Agrees k (entered (record { call = monitor target; answer = sayMade (monitorRule target k s .ans) }) l) (monitorRule target k s .state)
-unfolding monitorRule entered done
-monitor-agrees target k s l g a =
+pub monitor-agrees : (target : ℕ) → Agreed (monitor target)
+unfolding entered
+monitor-agrees target k s l g a p =
     let i = monitorFor k s in
     let b = suc (slotOf 64 target) in
-    split (eqb (runner s) 0) (λ h. rw h a)
-    (λ h. rw h (split (eqb target (runnerId s)) (λ q. rw q a)
-    (λ q. rw q (split (isActor s target)
-    (λ r. rw r (split (ltb i (k .monitors))
-    (λ v. rw v
-    (let m = ltb-true i (k .monitors) v in
+    let r = held (isActor s target) (p .1 .1 .0) in
+    let m = ltb-true i (k .monitors) (held (ltb i (k .monitors)) (p .1 .1 .1 .0)) in
     let f = of-usable OLDEST (s WATCHER) (s MONITOR-AGE) i (lowest-at (usable OLDEST (s WATCHER) (s MONITOR-AGE)) (k .monitors) m) in
-    let z = both (idOf 128 (at s MONITOR-AGE i + 1) i) (running-is k s g l a h) (live-is 64 (s STATE) (s AGE) target (omega arith) r ∙ ap (actorId s) (sym (down (slotOf 64 target)))) in
+    let z = both (idOf 128 (at s MONITOR-AGE i + 1) i) (running-is k s g l a (p .0)) (live-is 64 (s STATE) (s AGE) target (omega arith) r ∙ ap (actorId s) (sym (down (slotOf 64 target)))) in
     subst (λ (x : Monitor). Agrees k (withTies l (ties (l .ties .links) (l .ties .monitors ++ (x ∷ [])) (l .ties .worn))) (watch s i (runner s) b)) (sym z)
-    (watch-agrees k l s g a i (runner s) b m (f .0) (f .1) (eqb-false (runner s) 0 h))))
-    (λ v. rw v a)))
-    (λ r. rw r a)))))
+    (watch-agrees k l s g a i (runner s) b m (f .0) (f .1) (eqb-false (runner s) 0 (p .0)))
   where
     -- monitors with the same ends
     both : {i j x y : ℕ} (r : ℕ) → i ≡ x → j ≡ y → _≡_ {A = Monitor} (record { id = r; watcher = i; target = j }) (record { id = r; watcher = x; target = y })
     both r p q = rw (p, q)
 
 -- a monitor is refused for want of room exactly where the reckoning says so
-pub monitor-short : (target : ℕ) (k : Caps) (s : State) (l : Ledger) → Good k s → Agrees k l s → (monitorRule target k s .ans .no ≡ 2) ↔ (short l (monitor target) ≡ true)
-unfolding monitorRule short
+pub monitor-short : (target : ℕ) → Short (monitor target)
 monitor-short target k s l g a =
     rw (← idle-same k s g l a, ← known-same k s g l a target)
-    (split (eqb (runner s) 0) (λ h. rw h (two-no 4 (λ e. omega arith)))
+    (split (eqb (runner s) 0) (λ h. rw h)
     (λ h. let n : eqb target (l .people .running) ≡ eqb target (runnerId s) = ap (eqb target) (running-is k s g l a h) in
-    rw (h, n) (split (eqb target (runnerId s)) (λ q. rw q (two-no 1 (λ e. omega arith)))
+    rw (h, n) (split (eqb target (runnerId s)) (λ q. rw q)
     (λ q. rw q (split (isActor s target)
-    (λ r. rw (r, room-same (usable OLDEST (s WATCHER) (s MONITOR-AGE)) (k .monitors) (monitorsLeft l) (monitors-left k s g l a))
-    (split (eqb (monitorsLeft l) 0) (λ w. rw w (two-yes 2 refl)) (λ w. rw w (two-no 0 (λ e. omega arith)))))
-    (λ r. rw r (two-no 3 (λ e. omega arith))))))))
+    (λ r. rw (r, room-same (usable OLDEST (s WATCHER) (s MONITOR-AGE)) (k .monitors) (monitorsLeft l) (monitors-left k s g l a)) (split (eqb (monitorsLeft l) 0) (λ w. rw w) (λ w. rw w)))
+    (λ r. rw r))))))
 
 -- "a monitor or timer only its owner, by its id"
-pub demonitor-agrees : (id : ℕ) (k : Caps) (s : State) (l : Ledger) → Good k s → Agrees k l s →
-    Agrees k (entered (record { call = demonitor id; answer = plain (demonitorRule id k s .ans) }) l) (demonitorRule id k s .state)
-unfolding demonitorRule entered done
-demonitor-agrees id k s l g a =
-    split (eqb (runner s) 0) (λ h. rw h a)
-    (λ h. rw h (split (isMonitor s id && eqb (at s WATCHER (slotOf 128 id)) (runner s))
-    (λ q. rw q
-    (let t = and-left (isMonitor s id) (eqb (at s WATCHER (slotOf 128 id)) (runner s)) q in
+pub demonitor-agrees : (id : ℕ) → Agreed (demonitor id)
+unfolding entered
+demonitor-agrees id k s l g a p =
+    let mine = eqb (at s WATCHER (slotOf 128 id)) (runner s) in
+    let t = and-left (isMonitor s id) mine (held (isMonitor s id && mine) (p .1 .0)) in
     let e : id ≡ monitorId s (slotOf 128 id) = live-is 128 (s WATCHER) (s MONITOR-AGE) id (omega arith) t in
-    subst (λ (x : ℕ). Agrees k (endMonitors (λ m. eqb (m .id) x) l) (unwatch s (slotOf 128 id))) (sym e) (unwatch-agrees k l s (slotOf 128 id) g a (monitor-slot k s g id t))))
-    (λ q. rw q a)))
+    subst (λ (x : ℕ). Agrees k (endMonitors (λ m. eqb (m .id) x) l) (unwatch s (slotOf 128 id))) (sym e) (unwatch-agrees k l s (slotOf 128 id) g a (monitor-slot k s g id t))
 
 -- ---- an actor's own monitors and timers end
 module _ (k : Caps) (l : Ledger) (s : State) (g : Good k s) (a : Agrees k l s) (b : ℕ) (h : alive (s STATE) b ≡ true) where

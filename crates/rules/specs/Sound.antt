@@ -10,7 +10,7 @@ use Rattle.pools.specs.Bits.{free}
 use Rattle.pools.specs.Slot.{ageOf, slotOf}
 use Rattle.records.specs.Header.{classOf, markOf, tagOf}
 use Rattle.tables.specs.declared.Caps.{Caps}
-use Rattle.tables.specs.Columns.{ACTORS, AGE, ARRIVAL, ARRIVED, CLOCK, DATA-FREE, DATAS, DEADLINE, DUE, HAND, INTERVAL, LENGTH, LINK-ONE, LINK-TWO, LINKS, MAIL-DATA, MAIL-FREE, MAIL-OWNER, MAILS, MONITOR-AGE, MONITORS, PAYLOAD, PRIORITY, QUEUE, QUEUED, REASON, SENDER, STATE, TIMER-AGE, TIMER-OWNER, TIMERS, WANT-CLASS, WANT-SENDER, WANT-TAG, WATCHED, WATCHER}
+use Rattle.tables.specs.Columns.{ACTORS, AGE, ARRIVAL, ARRIVED, CLOCK, DATA-FREE, DATAS, DEADLINE, DUE, HAND, INTERVAL, LENGTH, LINK-ONE, LINK-TWO, LINKS, MAIL-DATA, MAIL-FREE, MAIL-OWNER, MAILS, MONITOR-AGE, MONITORS, PAYLOAD, PRIORITY, QUEUE, QUEUED, REASON, REST, SENDER, STATE, TIMER-AGE, TIMER-OWNER, TIMERS, WANT-CLASS, WANT-SENDER, WANT-TAG, WATCHED, WATCHER}
 use Rattle.tables.specs.State.{State, at, head, view, capsOf, size, neededP, Room}
 use Rattle.rules.specs.Rule.{Rule, is, le, lt, eq, differ, both, imp, each, Holds}
 use Rattle.rules.specs.Terms.{ANY-CLASS, ANY-SENDER, ANY-TAG, CLOCK-END, FREE, LONGEST, OLDEST, PAYLOAD-MOST, RUNNABLE, RUNS, WAITS, alive, awaits, header, joins, runner}
@@ -24,7 +24,7 @@ rangeRule k =
 
 -- "or a buffer is too short": every column has all its words, and the payload area all its bytes
 unfoldable pub sizeRule : Caps → State → Rule
-sizeRule k s = both (each 42 (λ c. eq (length (s c)) (size k c))) (eq (length (s PAYLOAD)) (neededP k))
+sizeRule k s = both (each REST (λ c. eq (length (s c)) (size k c))) (eq (length (s PAYLOAD)) (neededP k))
 
 abbrev pub fitRule : Caps → State → Rule
 fitRule k s = both (rangeRule k) (sizeRule k s)

@@ -11,6 +11,7 @@ use lib.Dec.{eqb, ltb}
 use borrow.Author.Tests.{eq-eqb, ne-eqb, lt-ltb, le-ltb, ltb-true, ltb-false, eqb-true, eqb-false}
 use Rattle.pools.proofs.BoolLaws.{split}
 use Rattle.tables.specs.declared.Caps.{Caps}
+use Rattle.tables.specs.Columns.{PAST, PAYLOAD, REST}
 use Rattle.tables.specs.State.{State, cut, needed, neededP, size, sizes, sizesP, sum, view, Room}
 use Rattle.tables.proofs.RowLaws.{cut-past}
 use Rattle.tables.proofs.ViewLaws.{needed-sum}
@@ -50,23 +51,23 @@ zeros-rest w n h = rw (zeros-front w n h) (drop-at (zeros n) (drop n w) n (lengt
 pub view-zeroed : (k : Caps) (w p : List ℕ) → Room k w p → view k (sets w 0 (zeros (needed k))) (sets p 0 (zeros (neededP k))) ≡ zeroed k (view k w p)
 unfolding view zeroed cut
 view-zeroed k w p r = fun-ext (λ c.
-    split (ltb c 42)
-    (λ q. let l = ltb-true c 42 q in
-    rw (lt-ltb c 43 (omega arith), ne-eqb c 42 (λ e. omega arith), ne-eqb c 44 (λ e. omega arith), ne-eqb c 43 (λ e. omega arith), zeros-front w (needed k) (r .words), ← needed-sum k)
+    split (ltb c REST)
+    (λ q. let l = ltb-true c REST q in
+    rw (lt-ltb c PAYLOAD (omega arith), ne-eqb c REST (λ e. omega arith), ne-eqb c PAST (λ e. omega arith), ne-eqb c PAYLOAD (λ e. omega arith), zeros-front w (needed k) (r .words), ← needed-sum k)
     (cut-zeros (sizes k) (drop (sum (sizes k)) w) c l))
-    (λ q. let l = ltb-false c 42 q in
-    split (eqb c 42)
-    (λ e. rw (eqb-true c 42 e) rest)
-    (λ e. let m = eqb-false c 42 e in
-    split (eqb c 43)
-    (λ f. rw (eqb-true c 43 f) (ap (λ (x : List ℕ). cut (sizesP k) x 0) (zeros-front p (neededP k) (r .bytes)) ∙ payload))
-    (λ f. split (eqb c 44)
-    (λ g. rw (eqb-true c 44 g) past)
-    (λ g. let n : 45 ≤ c = omega (arith, eqb-false c 43 f, eqb-false c 44 g) in
-    rw (le-ltb c 43 (omega arith), e, f, g)
-    (cut-past (sizesP k) _ (c - 43) (omega arith) ∙ ap (λ (n : ℕ). zeros n) (sym (List·getD-eq-default (sizes k) 0 l))))))))
+    (λ q. let l = ltb-false c REST q in
+    split (eqb c REST)
+    (λ e. rw (eqb-true c REST e) rest)
+    (λ e. let m = eqb-false c REST e in
+    split (eqb c PAYLOAD)
+    (λ f. rw (eqb-true c PAYLOAD f) (ap (λ (x : List ℕ). cut (sizesP k) x 0) (zeros-front p (neededP k) (r .bytes)) ∙ payload))
+    (λ f. split (eqb c PAST)
+    (λ g. rw (eqb-true c PAST g) past)
+    (λ g. let n : suc PAST ≤ c = omega (arith, eqb-false c PAYLOAD f, eqb-false c PAST g) in
+    rw (le-ltb c PAYLOAD (omega arith), e, f, g)
+    (cut-past (sizesP k) _ (c - PAYLOAD) (omega arith) ∙ ap (λ (n : ℕ). zeros n) (sym (List·getD-eq-default (sizes k) 0 l))))))))
   where
-    rest : cut (sizes k) (sets w 0 (zeros (needed k))) 42 ≡ cut (sizes k) w 42
+    rest : cut (sizes k) (sets w 0 (zeros (needed k))) REST ≡ cut (sizes k) w REST
     rest =
         cut-rest (sizes k) (sets w 0 (zeros (needed k))) ∙ ap (λ (n : ℕ). drop n (sets w 0 (zeros (needed k)))) (needed-sum k)
         ∙ zeros-rest w (needed k) (r .words) ∙ ap (λ (n : ℕ). drop n w) (sym (needed-sum k)) ∙ sym (cut-rest (sizes k) w)

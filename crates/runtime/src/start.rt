@@ -3,6 +3,7 @@ ghost use mathlib.Core.Path.{_≡_};
 ghost use Prim.Native.Nat.{_≤_, _<_};
 ghost use lib.ListN.{length, replicate};
 ghost use lib.Seq.{sets};
+ghost use Rattle.tables.specs.Columns.{REST};
 ghost use Rattle.tables.specs.State.{view, needed, Room, Left};
 ghost use Rattle.rules.specs.Host.{Started, ones, zeroed, stated, freed, fresh};
 use sound::fits;
@@ -78,7 +79,7 @@ fn ones_at(n: usize, j: usize) -> u64
 
 // All n entries of the free bits in column c are free.
 fn free_all(t: &mut [u64], p: &[u8], k: Caps, c: usize, n: usize)
-    requires { ⌜ Room k (now t) (now p) × (c < 42) ⌝ }
+    requires { ⌜ Room k (now t) (now p) × (c < REST) ⌝ }
     ensures { λ _. ⌜ Left k (freed c n (view k (now (t .entry)) (now (p .entry)))) (now (t .exit)) (now (p .entry)) ⌝ }
 {
     put(t, p, k, c, 0, ones_at(n, 0));

@@ -18,7 +18,7 @@ use Rattle.rules.specs.Rule.{test, each, eq, Holds}
 use Rattle.rules.specs.Sound.{headRule, slotRule, boxRule, heldRule, plainRules}
 use Rattle.rules.proofs.RuleLaws.{all-same}
 use Rattle.tables.specs.declared.Caps.{Caps}
-use Rattle.tables.specs.Columns.{ARRIVAL, ARRIVED, HAND, MAIL-DATA, MAIL-FREE, QUEUE, QUEUED}
+use Rattle.tables.specs.Columns.{ARRIVAL, ARRIVED, HAND, MAIL-DATA, MAIL-FREE, QUEUE, QUEUED, REST}
 use Rattle.tables.specs.State.{State, at, head, size, view, Room}
 use Rattle.tables.proofs.ViewLaws.{view-full}
 use Rattle.sound.specs.declared.Listed.{Listed}
@@ -145,7 +145,7 @@ module _ (k : Caps) (w p : List ℕ) (r : Room k w p) (h : Holds (plainRules k (
   }
 
   -- a column is its first words
-  whole : (c : ℕ) → c < 42 → take (size k c) (view k w p c) ≡ view k w p c
+  whole : (c : ℕ) → c < REST → take (size k c) (view k w p c) ≡ view k w p c
   whole c l = take-all (size k c) (view k w p c) (omega (arith, view-full k w p (r .words) c l))
 
   -- the rule of the data entries is tested by the row that has counted both columns

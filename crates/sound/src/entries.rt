@@ -7,7 +7,7 @@ ghost use Rattle.rules.specs.Sound.{spareRule, actorRule, idleRule, waitRule, r
 ghost use Rattle.rules.specs.Terms.{alive};
 ghost use Rattle.sound.specs.Kinds.{restRule};
 ghost use Rattle.tables.specs.State.{head, view, Room};
-ghost use Rattle.tables.specs.Columns.{STATE};
+ghost use Rattle.tables.specs.Columns.{REST, STATE};
 use tables::Caps;
 use tables::columns::AGE;
 use tables::columns::ARRIVAL;
@@ -48,7 +48,7 @@ pub fn named(word: u64) -> u64
 
 // Is entry e free, by the bits in column c?
 pub fn bit_free(t: &[u64], p: &[u8], k: Caps, c: usize, e: u64) -> bool
-    requires { ⌜ Room k (now t) (now p) × (c < 42) ⌝ }
+    requires { ⌜ Room k (now t) (now p) × (c < REST) ⌝ }
     ensures { λ r. ⌜ r ≡ free (view k (now (t .entry)) (now (p .entry)) c) e ⌝ }
 {
     let word = get(t, p, k, c, e / 64);
@@ -73,7 +73,7 @@ pub fn spare_ok(t: &[u64], p: &[u8], k: Caps, i: u64) -> bool
 
 // Bit e of the bits in column c, which has n entries.
 pub fn bits_ok(t: &[u64], p: &[u8], k: Caps, c: usize, n: usize, e: u64) -> bool
-    requires { ⌜ Room k (now t) (now p) × (c < 42) ⌝ }
+    requires { ⌜ Room k (now t) (now p) × (c < REST) ⌝ }
     ensures { λ r. ⌜ r ≡ test (bitsRule n (view k (now (t .entry)) (now (p .entry)) c) e) ⌝ }
 {
     let is_free = bit_free(t, p, k, c, e);
@@ -144,7 +144,7 @@ fn run_ok(t: &[u64], p: &[u8], k: Caps, a: u64) -> bool
 
 // Word i of the list in column c, whose length is the word of the column `count`, and whose entries are below n.
 fn list_ok(t: &[u64], p: &[u8], k: Caps, c: usize, count: usize, n: usize, i: u64) -> bool
-    requires { ⌜ Room k (now t) (now p) × (c < 42) × (count < 42) ⌝ }
+    requires { ⌜ Room k (now t) (now p) × (c < REST) × (count < REST) ⌝ }
     ensures { λ r. ⌜ r ≡ test (listRule n (head (view k (now (t .entry)) (now (p .entry))) count) (view k (now (t .entry)) (now (p .entry)) c) i) ⌝ }
 {
     let m = get(t, p, k, count, 0);

@@ -4,6 +4,7 @@ ghost use Prim.Native.Nat.{_+_, _≤_, _<_};
 ghost use Rattle.rules.specs.Rule.{test, each, Holds};
 ghost use Rattle.rules.specs.Sound.{plainRules, onceRule, arrivedRule, heldRule};
 ghost use Rattle.sound.specs.Tallies.{Countable, Counted, stands, rowRule};
+ghost use Rattle.tables.specs.Columns.{REST};
 ghost use Rattle.tables.specs.State.{view, Room};
 use crate::Listed;
 use crate::entries::bit_free;
@@ -21,7 +22,7 @@ use tables::words::get;
 
 // The row counts the first n words of column c, each at its own place.
 fn tally(t: &[u64], p: &[u8], k: Caps, c: usize, n: u64, row: &mut [u64; 257])
-    requires { ⌜ Room k (now t) (now p) × (c < 42) × Countable (view k (now t) (now p) c) n (now row) ⌝ }
+    requires { ⌜ Room k (now t) (now p) × (c < REST) × Countable (view k (now t) (now p) c) n (now row) ⌝ }
     ensures { λ _. ⌜ Counted (view k (now (t .entry)) (now (p .entry)) c) n (now (row .entry)) (now (row .exit)) ⌝ }
 {
     let mut i: u64 = 0;

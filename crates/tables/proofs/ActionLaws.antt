@@ -1,23 +1,22 @@
--- What the actions on a column leave: the sizes, the other columns, a list, an entry of the payload. Assumes nothing.
+-- What the actions on a column leave: the other columns, a list, an entry of the payload. Assumes nothing.
 use Prim.Native.Nat.{ℕ, zero, suc, _+_, _-_, _*_, _≤_, _<_}
 use native.Mathlib.Numerals.{add-one}
 use native.Mathlib.Omega.{arith}
 use mathlib.Core.Path.{_≡_, refl, sym, ap, _∙_, fun-ext}
 use mathlib.Core.Bool.{false}
 use mathlib.Core.List.{List, [], _∷_, _++_}
-use lib.ListN.{length, getD, set, take, drop, replicate, length-set, length-drop, length-replicate}
-use lib.Seq.{take-all, length-take-le, take-at, drop-at, take-suc-set, getD-set-same, getD-set-other, getD-drop, sets, length-sets}
+use lib.ListN.{length, getD, set, take, drop, replicate, length-drop, length-replicate}
+use lib.Seq.{length-take-le, take-at, drop-at, take-suc-set, getD-set-same, getD-set-other, getD-drop, sets}
 use lib.Dec.{eqb}
-use borrow.Author.Tests.{eqb-true, eqb-false, eq-eqb, ne-eqb}
-use Rattle.pools.specs.Bits.{taken, released}
+use borrow.Author.Tests.{eqb-false, eq-eqb, ne-eqb}
 use Rattle.pools.specs.Lists.{without}
 use Rattle.pools.proofs.BoolLaws.{split}
-use Rattle.pools.proofs.FreeLaws.{length-taken, length-released}
 use Rattle.pools.proofs.ListLaws.{length-without}
 use Rattle.tables.specs.declared.Caps.{Caps}
+use Rattle.tables.specs.Columns.{PAYLOAD}
 use Rattle.tables.specs.State.{State, at, head, with-col, poke}
-use Rattle.tables.specs.Action.{push, closed, pull, takeBit, freeBit, write, entry, blank}
-use Rattle.tables.proofs.LoopLaws.{length-closed, sets-append, sets-same, sets-other, sets-all, sets-within, sets-apart, sets-zeros}
+use Rattle.tables.specs.Action.{push, closed, pull, write, entry, blank}
+use Rattle.tables.proofs.LoopLaws.{sets-append, sets-same, sets-other, sets-all, sets-within, sets-apart, sets-zeros}
 use Rattle.tables.proofs.ViewLaws.{Sized}
 
 -- ---- one column anew
@@ -50,79 +49,6 @@ module _ (s : State) (c : ℕ) where
 -- numbers that differ differ the other way round
 differ : (a b : ℕ) → eqb a b ≡ false → eqb b a ≡ false
 differ a b e = ne-eqb b a (λ q. eqb-false a b e (sym q))
-
--- ---- the state still lies in its buffers
-module _ (k : Caps) where
-  -- where every column is as long as it was
-  sized-same : (s t : State) → ((d : ℕ) → length (t d) ≡ length (s d)) → Sized k s → Sized k t
-  sized-same s t e z = record {
-    words = λ c h. e c ∙ z .words c h;
-    bytes = e 43 ∙ z .bytes;
-    past = λ c h. sym (take-all 0 (t c) (omega (arith, e c, ap length (z .past c h))));
-  }
-
-  -- after a column of the same length
-  pub sized-with : (s : State) (c : ℕ) (l : List ℕ) → length l ≡ length (s c) → Sized k s → Sized k (with-col s c l)
-  unfolding with-col
-  sized-with s c l e z = sized-same s (with-col s c l) (λ d. split (eqb d c) (λ q. rw (q, eqb-true d c q) e) (λ q. rw q)) z
-
-  -- after a word
-  pub sized-poke : (s : State) (c i v : ℕ) → Sized k s → Sized k (poke s c i v)
-  unfolding poke
-  sized-poke s c i v z = sized-with s c (set (s c) i v) (length-set (s c) i v) z
-
-  -- after one joined a list
-  pub sized-push : (s : State) (list count v : ℕ) → Sized k s → Sized k (push s list count v)
-  unfolding push
-  sized-push s list count v z = sized-poke _ count 0 (head s count + 1) (sized-poke s list (head s count) v z)
-
-  -- after one left it
-  pub sized-pull : (s : State) (list count j : ℕ) → j < head s count → head s count ≤ length (s list) → Sized k s → Sized k (pull s list count j)
-  unfolding pull
-  sized-pull s list count j h g z =
-      sized-poke _ count 0 (head s count - 1) (sized-with s list (closed (head s count) j (s list)) (length-closed (head s count) j (s list) h g) z)
-
-  -- after a bit was taken
-  pub sized-take : (s : State) (c e : ℕ) → Sized k s → Sized k (takeBit s c e)
-  unfolding takeBit
-  sized-take s c e z = sized-with s c (taken (s c) e) (length-taken (s c) e) z
-
-  -- and released
-  pub sized-free : (s : State) (c e : ℕ) → Sized k s → Sized k (freeBit s c e)
-  unfolding freeBit
-  sized-free s c e z = sized-with s c (released (s c) e) (length-released (s c) e) z
-
-  -- after bytes were written
-  pub sized-write : (s : State) (d i : ℕ) (m : List ℕ) → Sized k s → Sized k (write s d i m)
-  unfolding write
-  sized-write s d i m z = sized-with s 43 (sets (s 43) (256 * d + i) m) (length-sets (s 43) (256 * d + i) m) z
-
--- ---- the columns that an action is not on are as they were
-module _ (s : State) (d : ℕ) where
-  -- neither the list nor its count
-  pub push-other : (list count v : ℕ) → eqb d list ≡ false → eqb d count ≡ false → push s list count v d ≡ s d
-  unfolding push poke with-col
-  push-other list count v e f = rw (f, e)
-
-  -- the same where one leaves
-  pub pull-other : (list count j : ℕ) → eqb d list ≡ false → eqb d count ≡ false → pull s list count j d ≡ s d
-  unfolding pull poke with-col
-  pull-other list count j e f = rw (f, e)
-
-  -- not the bits
-  pub take-other : (c e : ℕ) → eqb d c ≡ false → takeBit s c e d ≡ s d
-  unfolding takeBit
-  take-other c e q = with-other s c (taken (s c) e) d q
-
-  -- the same of a release
-  pub free-other : (c e : ℕ) → eqb d c ≡ false → freeBit s c e d ≡ s d
-  unfolding freeBit
-  free-other c e q = with-other s c (released (s c) e) d q
-
-  -- not the payload
-  pub write-other : (e i : ℕ) (m : List ℕ) → eqb d 43 ≡ false → write s e i m d ≡ s d
-  unfolding write
-  write-other e i m q = with-other s 43 (sets (s 43) (256 * e + i) m) d q
 
 -- ---- a list and its count
 module _ (s : State) (list count : ℕ) (apart : eqb list count ≡ false) where
@@ -190,26 +116,26 @@ module _ (s : State) (list count : ℕ) (apart : eqb list count ≡ false) where
 -- ---- the bytes of an entry
 module _ (s : State) (d : ℕ) where
   -- the payload once bytes were written
-  pub write-payload : (i : ℕ) (m : List ℕ) → write s d i m 43 ≡ sets (s 43) (256 * d + i) m
+  pub write-payload : (i : ℕ) (m : List ℕ) → write s d i m PAYLOAD ≡ sets (s PAYLOAD) (256 * d + i) m
   unfolding write
-  write-payload i m = with-same s 43 (sets (s 43) (256 * d + i) m)
+  write-payload i m = with-same s PAYLOAD (sets (s PAYLOAD) (256 * d + i) m)
 
   -- bytes written into an entry
   pub write-entry : (i : ℕ) (m : List ℕ) → i + length m ≤ 256 → entry (write s d i m) d ≡ sets (entry s d) i m
-  write-entry i m h = rw (write-payload i m) (sets-within (s 43) (256 * d) 256 i m h)
+  write-entry i m h = rw (write-payload i m) (sets-within (s PAYLOAD) (256 * d) 256 i m h)
 
   -- leave every other entry as it was
   pub write-apart : (i : ℕ) (m : List ℕ) (e : ℕ) → i + length m ≤ 256 → (e ≡ d → ⊥) → entry (write s d i m) e ≡ entry s e
-  write-apart i m e h q = rw (write-payload i m) (sets-apart (s 43) (256 * e) 256 (256 * d + i) m (λ j n b o p. q (omega arith)))
+  write-apart i m e h q = rw (write-payload i m) (sets-apart (s PAYLOAD) (256 * e) 256 (256 * d + i) m (λ j n b o p. q (omega arith)))
 
   -- end to end
   pub write-append : (i : ℕ) (m n : List ℕ) → write (write s d i m) d (i + length m) n ≡ write s d i (m ++ n)
   unfolding write
-  write-append i m n = rw (with-same s 43 (sets (s 43) (256 * d + i) m), with-twice s 43 (sets (s 43) (256 * d + i) m), sets-append (s 43) (256 * d + i) m n) (ap (λ (j : ℕ). with-col s 43 (sets (sets (s 43) (256 * d + i) m) j n)) (omega arith))
+  write-append i m n = rw (with-same s PAYLOAD (sets (s PAYLOAD) (256 * d + i) m), with-twice s PAYLOAD (sets (s PAYLOAD) (256 * d + i) m), sets-append (s PAYLOAD) (256 * d + i) m n) (ap (λ (j : ℕ). with-col s PAYLOAD (sets (sets (s PAYLOAD) (256 * d + i) m) j n)) (omega arith))
 
   -- an entry has 256 bytes
   pub length-entry : (k : Caps) → Sized k s → d < k .datas → length (entry s d) ≡ 256
-  length-entry k z h = length-take-le 256 (drop (256 * d) (s 43)) (rw length-drop (omega (arith, z .bytes)))
+  length-entry k z h = length-take-le 256 (drop (256 * d) (s PAYLOAD)) (rw length-drop (omega (arith, z .bytes)))
 
   -- a byte that was written
   pub write-byte : (i : ℕ) (m : List ℕ) (j : ℕ) → i + length m ≤ 256 → length (entry s d) ≡ 256 → j < length m → getD (entry (write s d i m) d) (i + j) 0 ≡ getD m j 0

@@ -11,6 +11,7 @@ use lib.Dec.{eqb, ltb}
 use borrow.Author.Tests.{eqb-true, eqb-false, ne-eqb, ltb-true, ltb-false, lt-ltb, le-ltb}
 use Rattle.pools.proofs.BoolLaws.{split}
 use Rattle.tables.specs.declared.Caps.{Caps}
+use Rattle.tables.specs.Columns.{PAST, PAYLOAD, REST}
 use Rattle.tables.specs.State.{State, with-col, poke, cut, sum, glue, sizes, sizesP, size, start, needed, view, joinW, joinP, InRange, Room, Left}
 use Rattle.tables.specs.Action.{write, blank}
 use Rattle.tables.proofs.LoopLaws.{sets-paste}
@@ -27,20 +28,20 @@ needed-few k r = omega arith
 
 module _ (k : Caps) (w p : List ℕ) where
   -- a word column, whatever the bytes
-  pub view-word : (c : ℕ) → c < 43 → view k w p c ≡ cut (sizes k) w c
+  pub view-word : (c : ℕ) → c < PAYLOAD → view k w p c ≡ cut (sizes k) w c
   unfolding view
-  view-word c h = rw (lt-ltb c 43 h)
+  view-word c h = rw (lt-ltb c PAYLOAD h)
 
   -- THE LAW of stores: at an address m in column c
-  pub view-put : (c i v m : ℕ) → m ≡ start k c + i → i < size k c → c < 42 → view k (set w m v) p ≡ poke (view k w p) c i v
+  pub view-put : (c i v m : ℕ) → m ≡ start k c + i → i < size k c → c < REST → view k (set w m v) p ≡ poke (view k w p) c i v
   unfolding view with-col poke
   view-put c i v m e h l = rw e (fun-ext (λ d.
-      split (ltb d 43)
-      (λ q. rw (q, cut-put (sizes k) w c i v h d, lt-ltb c 43 (omega arith)))
-      (λ q. let n : eqb d c ≡ false = ne-eqb d c (λ z. omega (arith, ltb-false d 43 q)) in rw (q, n))))
+      split (ltb d PAYLOAD)
+      (λ q. rw (q, cut-put (sizes k) w c i v h d, lt-ltb c PAYLOAD (omega arith)))
+      (λ q. let n : eqb d c ≡ false = ne-eqb d c (λ z. omega (arith, ltb-false d PAYLOAD q)) in rw (q, n))))
 
   -- a store past its size does nothing to a column
-  pub view-put-out : (c i v : ℕ) → c < 42 → size k c ≤ i → view k w p ≡ poke (view k w p) c i v
+  pub view-put-out : (c i v : ℕ) → c < REST → size k c ≤ i → view k w p ≡ poke (view k w p) c i v
   unfolding with-col poke
   view-put-out c i v l h = fun-ext (λ d. split (eqb d c)
       (λ q. rw (q, eqb-true d c q) (sym (set-out (view k w p c) i v (rw (view-word c (omega arith)) (omega (arith, cut-short (sizes k) w c l))))))
@@ -51,20 +52,20 @@ module _ (k : Caps) (w p : List ℕ) where
   within c n r h = omega (arith, r .words, needed-sum k, ends-all (sizes k) c)
 
   -- each column has its size where the table has room
-  pub view-full : needed k ≤ length w → (c : ℕ) → c < 42 → length (view k w p c) ≡ size k c
+  pub view-full : needed k ≤ length w → (c : ℕ) → c < REST → length (view k w p c) ≡ size k c
   view-full h c l = rw (view-word c (omega arith)) (cut-full (sizes k) w (omega (arith, needed-sum k)) c l)
 
   -- a table in which each column has its size has room for them
-  pub full-view : ((c : ℕ) → c < 42 → length (view k w p c) ≡ size k c) → needed k ≤ length w
+  pub full-view : ((c : ℕ) → c < REST → length (view k w p c) ≡ size k c) → needed k ≤ length w
   full-view h = rw (← needed-sum k) (full-cut (sizes k) w (λ c l. ap length (sym (view-word c (omega arith))) ∙ h c l))
 
   -- the payload has its size where its buffer has room
-  pub view-fullP : 256 * k .datas ≤ length p → length (view k w p 43) ≡ 256 * k .datas
+  pub view-fullP : 256 * k .datas ≤ length p → length (view k w p PAYLOAD) ≡ 256 * k .datas
   unfolding view
   view-fullP h = cut-full (sizesP k) p (omega arith) 0 (omega arith)
 
   -- and the buffer has room where the payload has its size
-  pub full-viewP : length (view k w p 43) ≡ 256 * k .datas → 256 * k .datas ≤ length p
+  pub full-viewP : length (view k w p PAYLOAD) ≡ 256 * k .datas → 256 * k .datas ≤ length p
   unfolding view cut
   full-viewP e = omega (arith, length-take (256 * k .datas) p)
 
@@ -74,27 +75,27 @@ module _ (k : Caps) (w p : List ℕ) where
   join-view = (glue-cut (sizes k) w, glue-cut (sizesP k) p)
 
 -- there is no column past the last one
-pub view-past : (k : Caps) (w p : List ℕ) (c : ℕ) → 44 < c → view k w p c ≡ []
+pub view-past : (k : Caps) (w p : List ℕ) (c : ℕ) → PAST < c → view k w p c ≡ []
 unfolding view
-view-past k w p c l = rw (le-ltb c 43 (omega arith)) (cut-past (sizesP k) p (c - 43) (omega arith))
+view-past k w p c l = rw (le-ltb c PAYLOAD (omega arith)) (cut-past (sizesP k) p (c - PAYLOAD) (omega arith))
 
 -- a state that lies in buffers: each column has its size, and there are no more
 pub record Sized (k : Caps) (s : State) : Type 0 where
-  pub words : (c : ℕ) → c < 42 → length (s c) ≡ size k c
-  pub bytes : length (s 43) ≡ 256 * k .datas
-  pub past : (c : ℕ) → 44 < c → s c ≡ []
+  pub words : (c : ℕ) → c < REST → length (s c) ≡ size k c
+  pub bytes : length (s PAYLOAD) ≡ 256 * k .datas
+  pub past : (c : ℕ) → PAST < c → s c ≡ []
 
 -- a state that lies in buffers is what is seen in its own
 pub view-join : (k : Caps) (s : State) → Sized k s → view k (joinW s) (joinP s) ≡ s
 unfolding view joinW joinP
 view-join k s z = fun-ext (λ c.
-    split (ltb c 43)
-    (λ q. rw q (cut-glue (sizes k) s (z .words) c (le-of-suc-le-suc (ltb-true c 43 q))))
-    (λ q. rw q (split (ltb c 45)
-    (λ r. cut-glue (sizesP k) (λ d. s (43 + d)) (λ d l. bytes d l) (c - 43) (omega (arith, ltb-true c 45 r)) ∙ ap s (omega (arith, ltb-false c 43 q)))
-    (λ r. cut-past (sizesP k) (glue 1 (λ d. s (43 + d))) (c - 43) (omega (arith, ltb-false c 45 r)) ∙ sym (z .past c (ltb-false c 45 r))))))
+    split (ltb c PAYLOAD)
+    (λ q. rw q (cut-glue (sizes k) s (z .words) c (le-of-suc-le-suc (ltb-true c PAYLOAD q))))
+    (λ q. rw q (split (ltb c (suc PAST))
+    (λ r. cut-glue (sizesP k) (λ d. s (PAYLOAD + d)) (λ d l. bytes d l) (c - PAYLOAD) (omega (arith, ltb-true c (suc PAST) r)) ∙ ap s (omega (arith, ltb-false c PAYLOAD q)))
+    (λ r. cut-past (sizesP k) (glue 1 (λ d. s (PAYLOAD + d))) (c - PAYLOAD) (omega (arith, ltb-false c (suc PAST) r)) ∙ sym (z .past c (ltb-false c (suc PAST) r))))))
   where
-    bytes : (d : ℕ) → d < 1 → length (s (43 + d)) ≡ getD (sizesP k) d 0
+    bytes : (d : ℕ) → d < 1 → length (s (PAYLOAD + d)) ≡ getD (sizesP k) d 0
     bytes zero l = z .bytes
     bytes (suc d) l = absurd (omega arith)
 
@@ -108,22 +109,22 @@ room-set k w p m v r = record { caps = r .caps; words = rw length-set (r .words)
 
 module _ (k : Caps) (w p : List ℕ) (r : Room k w p) (l : List ℕ) where
   -- THE LAW of a list written into a column: what a call that was lent a part of it leaves
-  pub view-paste : (c i n m : ℕ) → m ≡ start k c + i → c < 42 → i + n ≤ size k c → n ≤ length l → view k (paste w m l n) p ≡ with-col (view k w p) c (paste (view k w p c) i l n)
+  pub view-paste : (c i n m : ℕ) → m ≡ start k c + i → c < REST → i + n ≤ size k c → n ≤ length l → view k (paste w m l n) p ≡ with-col (view k w p) c (paste (view k w p c) i l n)
   unfolding view with-col
   view-paste c i n m e b h g = rw e (fun-ext (λ d.
-      split (ltb d 43)
-      (λ q. rw (q, cut-paste (sizes k) w l c i n b h (rw (needed-sum k) (r .words)) g d, lt-ltb c 43 (omega arith)))
-      (λ q. let z : eqb d c ≡ false = ne-eqb d c (λ z. omega (arith, ltb-false d 43 q)) in rw (q, z))))
+      split (ltb d PAYLOAD)
+      (λ q. rw (q, cut-paste (sizes k) w l c i n b h (rw (needed-sum k) (r .words)) g d, lt-ltb c PAYLOAD (omega arith)))
+      (λ q. let z : eqb d c ≡ false = ne-eqb d c (λ z. omega (arith, ltb-false d PAYLOAD q)) in rw (q, z))))
 
   -- and into the payload
-  pub view-pasteP : (i n : ℕ) → i + n ≤ 256 * k .datas → n ≤ length l → view k w (paste p i l n) ≡ with-col (view k w p) 43 (paste (view k w p 43) i l n)
+  pub view-pasteP : (i n : ℕ) → i + n ≤ 256 * k .datas → n ≤ length l → view k w (paste p i l n) ≡ with-col (view k w p) PAYLOAD (paste (view k w p PAYLOAD) i l n)
   unfolding view with-col cut
   view-pasteP i n h g = fun-ext (λ d.
-      split (ltb d 43)
-      (λ q. let e : eqb d 43 ≡ false = ne-eqb d 43 (λ z. omega (arith, ltb-true d 43 q)) in rw (q, e))
-      (λ q. split (eqb d 43)
-      (λ e. rw (q, e, eqb-true d 43 e) (take-pasted p l i n (256 * k .datas) h (r .bytes) g))
-      (λ e. let z : d - 43 ≡ suc (d - 44) = omega (arith, ltb-false d 43 q, eqb-false d 43 e) in rw (q, e, z) (ap (λ x. cut [] x (d - 44)) (drop-pasted p l i n (256 * k .datas) h (r .bytes) g)))))
+      split (ltb d PAYLOAD)
+      (λ q. let e : eqb d PAYLOAD ≡ false = ne-eqb d PAYLOAD (λ z. omega (arith, ltb-true d PAYLOAD q)) in rw (q, e))
+      (λ q. split (eqb d PAYLOAD)
+      (λ e. rw (q, e, eqb-true d PAYLOAD e) (take-pasted p l i n (256 * k .datas) h (r .bytes) g))
+      (λ e. let z : d - PAYLOAD ≡ suc (d - PAST) = omega (arith, ltb-false d PAYLOAD q, eqb-false d PAYLOAD e) in rw (q, e, z) (ap (λ x. cut [] x (d - PAST)) (drop-pasted p l i n (256 * k .datas) h (r .bytes) g)))))
 
 -- a list written over a part leaves the room that there was
 pub room-paste : (k : Caps) (w p l : List ℕ) (m n : ℕ) → m + n ≤ length w → n ≤ length l → Room k w p → Room k (paste w m l n) p
@@ -132,17 +133,17 @@ room-paste k w p l m n h g r = record { caps = r .caps; words = rw (length-paste
 -- ---- the payload
 module _ (k : Caps) (w p : List ℕ) (r : Room k w p) where
   -- a byte of the area
-  pub view-getP : (i : ℕ) → i < 256 * k .datas → getD (view k w p 43) i 0 ≡ getD p i 0
+  pub view-getP : (i : ℕ) → i < 256 * k .datas → getD (view k w p PAYLOAD) i 0 ≡ getD p i 0
   unfolding view cut
   view-getP i h = getD-take (256 * k .datas) p i 0 h
 
   -- past the area there is none
-  pub view-outP : (i : ℕ) → 256 * k .datas ≤ i → getD (view k w p 43) i 0 ≡ 0
-  view-outP i h = List·getD-eq-default (view k w p 43) 0 (omega (arith, view-fullP k w p (r .bytes)))
+  pub view-outP : (i : ℕ) → 256 * k .datas ≤ i → getD (view k w p PAYLOAD) i 0 ≡ 0
+  view-outP i h = List·getD-eq-default (view k w p PAYLOAD) 0 (omega (arith, view-fullP k w p (r .bytes)))
 
   -- bytes stored one after the other among the first ones of the area
-  pub view-sets : (i : ℕ) (m : List ℕ) → i + length m ≤ 256 * k .datas → view k w (sets p i m) ≡ with-col (view k w p) 43 (sets (view k w p 43) i m)
-  view-sets i m h = rw (sets-paste p i m (omega (arith, r .bytes)), sets-paste (view k w p 43) i m (omega (arith, view-fullP k w p (r .bytes)))) (view-pasteP k w p r m i (length m) h (omega arith))
+  pub view-sets : (i : ℕ) (m : List ℕ) → i + length m ≤ 256 * k .datas → view k w (sets p i m) ≡ with-col (view k w p) PAYLOAD (sets (view k w p PAYLOAD) i m)
+  view-sets i m h = rw (sets-paste p i m (omega (arith, r .bytes)), sets-paste (view k w p PAYLOAD) i m (omega (arith, view-fullP k w p (r .bytes)))) (view-pasteP k w p r m i (length m) h (omega arith))
 
   -- bytes written into an entry
   pub write-left : (d i : ℕ) (m : List ℕ) → d < k .datas → i + length m ≤ 256 → Left k (write (view k w p) d i m) w (sets p (256 * d + i) m)
@@ -163,7 +164,7 @@ module _ (k : Caps) (w p : List ℕ) (r : Room k w p) where
   blank-left d l = zeros-left d 256 l (omega arith)
 
 -- ---- a part of a column lent to a call
-module _ (k : Caps) (w p : List ℕ) (r : Room k w p) (c s n e : ℕ) (b : c < 42) (z : s ≡ start k c) (h : e ≡ s + n) where
+module _ (k : Caps) (w p : List ℕ) (r : Room k w p) (c s n e : ℕ) (b : c < REST) (z : s ≡ start k c) (h : e ≡ s + n) where
   -- what it is lent: the first n words of the column
   pub part-lent : n ≤ size k c → take (e - s) (drop s w) ≡ take n (view k w p c)
   part-lent g =

@@ -5,6 +5,7 @@ use mathlib.Core.Bool.{cond}
 use mathlib.Core.List.{List, [], _∷_, _++_}
 use lib.ListN.{length, getD, set, take, drop, replicate}
 use lib.Dec.{eqb, ltb}
+use Rattle.tables.specs.Columns.{PAYLOAD, REST}
 use Rattle.tables.specs.declared.Caps.{Caps}
 
 abbrev pub State : Type 0
@@ -69,13 +70,13 @@ neededP k = 256 * k .datas
 
 -- ---- there and back
 unfoldable pub view : Caps → List ℕ → List ℕ → State
-view k w p c = cond (ltb c 43) (cut (sizes k) w c) (cut (sizesP k) p (c - 43))
+view k w p c = cond (ltb c PAYLOAD) (cut (sizes k) w c) (cut (sizesP k) p (c - PAYLOAD))
 
 unfoldable pub joinW : State → List ℕ
-joinW s = glue 42 s
+joinW s = glue REST s
 
 unfoldable pub joinP : State → List ℕ
-joinP s = glue 1 (λ c. s (43 + c))
+joinP s = glue 1 (λ c. s (PAYLOAD + c))
 
 -- the capacities that the head states
 abbrev pub capsOf : List ℕ → Caps

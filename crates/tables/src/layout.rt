@@ -2,6 +2,7 @@
 ghost use mathlib.Core.Path.{_≡_};
 ghost use Prim.Native.Nat.{_+_, _*_, _<_, _≤_};
 ghost use lib.ListN.{getD};
+ghost use Rattle.tables.specs.Columns.{REST};
 ghost use Rattle.tables.specs.State.{capsOf, start, size, InRange};
 use crate::Caps;
 
@@ -48,7 +49,7 @@ fn nth(from: usize, size: usize, i: usize) -> Place
 
 // Where column c lies.
 pub fn place_of(k: Caps, c: usize) -> Place
-    requires { ⌜ InRange k × (c < 42) ⌝ }
+    requires { ⌜ InRange k × (c < REST) ⌝ }
     ensures { λ r. ⌜ (r .from ≡ start k c) × (r .size ≡ size k c) ⌝ }
 {
     if c < 16 {

@@ -2,6 +2,7 @@
 ghost use mathlib.Core.Path.{_≡_};
 ghost use Prim.Native.Nat.{_<_, _≤_};
 ghost use lib.ListN.{length};
+ghost use Rattle.tables.specs.Columns.{REST};
 ghost use Rattle.tables.specs.State.{head, with-col, view, size, Room, Left};
 ghost use Rattle.tables.specs.Action.{closed, push, pull};
 use crate::Caps;
@@ -11,7 +12,7 @@ use crate::words::put;
 
 // v joins the tail.
 pub fn push(t: &mut [u64], p: &[u8], k: Caps, list: usize, count: usize, v: u64)
-    requires { ⌜ Room k (now t) (now p) × (list < 42) × (count < 42) × (head (view k (now t) (now p)) count ≤ 4096) ⌝ }
+    requires { ⌜ Room k (now t) (now p) × (list < REST) × (count < REST) × (head (view k (now t) (now p)) count ≤ 4096) ⌝ }
     ensures { λ _. ⌜ Left k (push (view k (now (t .entry)) (now (p .entry))) list count v) (now (t .exit)) (now (p .entry)) ⌝ }
 {
     let n = get(t, p, k, count, 0);
@@ -35,7 +36,7 @@ fn close_up(q: &mut [u64], j: usize)
 
 // The j-th of the n words of column c leaves.
 fn close_column(t: &mut [u64], p: &[u8], k: Caps, c: usize, n: usize, j: usize)
-    requires { ⌜ Room k (now t) (now p) × (c < 42) × (n ≤ size k c) × (j < n) ⌝ }
+    requires { ⌜ Room k (now t) (now p) × (c < REST) × (n ≤ size k c) × (j < n) ⌝ }
     ensures { λ _. ⌜ Left k (with-col (view k (now (t .entry)) (now (p .entry))) c (closed n j (view k (now (t .entry)) (now (p .entry)) c))) (now (t .exit)) (now (p .entry)) ⌝ }
 {
     let place = place_of(k, c);
@@ -46,7 +47,7 @@ fn close_column(t: &mut [u64], p: &[u8], k: Caps, c: usize, n: usize, j: usize)
 
 // The j-th of a list leaves it.
 pub fn pull(t: &mut [u64], p: &[u8], k: Caps, list: usize, count: usize, j: u64)
-    requires { ⌜ Room k (now t) (now p) × (list < 42) × (count < 42) × (j < head (view k (now t) (now p)) count) × (head (view k (now t) (now p)) count ≤ size k list) ⌝ }
+    requires { ⌜ Room k (now t) (now p) × (list < REST) × (count < REST) × (j < head (view k (now t) (now p)) count) × (head (view k (now t) (now p)) count ≤ size k list) ⌝ }
     ensures { λ _. ⌜ Left k (pull (view k (now (t .entry)) (now (p .entry))) list count j) (now (t .exit)) (now (p .entry)) ⌝ }
 {
     let n = get(t, p, k, count, 0);
