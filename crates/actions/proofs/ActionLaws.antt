@@ -16,6 +16,7 @@ use Rattle.pools.proofs.PoolLaws.{lowest-found, lowest-none}
 use Rattle.records.specs.Bytes.{field, ofLe}
 use Rattle.tables.specs.declared.Caps.{Caps}
 use Rattle.tables.specs.Columns.{ARRIVED, PAYLOAD, QUEUED}
+use Rattle.tables.specs.Limits.{ENTRY-BYTES, HEADER-BYTES}
 use Rattle.tables.specs.State.{State, head, with-col, poke, cut, view}
 use Rattle.tables.specs.Action.{push, pull, takeBit, freeBit, write}
 use Rattle.rules.specs.Terms.{headerAt}
@@ -78,15 +79,15 @@ part-take (suc N) (suc m) n (x ∷ l) h = part-take N m n l (omega arith)
 
 module _ (k : Caps) (w p : List ℕ) (d : ℕ) where
   -- the header of an entry lies in the buffer
-  pub header-lies : d < k .datas → headerAt (view k w p PAYLOAD) d ≡ field 4 (256 * d) p
+  pub header-lies : d < k .datas → headerAt (view k w p PAYLOAD) d ≡ field HEADER-BYTES (ENTRY-BYTES * d) p
   unfolding headerAt view cut
-  header-lies h = ap ofLe (part-take (256 * k .datas) (256 * d) 4 p (omega arith))
+  header-lies h = ap ofLe (part-take (ENTRY-BYTES * k .datas) (ENTRY-BYTES * d) 4 p (omega arith))
 
   -- past the last entry it is 0
   pub header-past : k .datas ≤ d → headerAt (view k w p PAYLOAD) d ≡ 0
   unfolding headerAt view cut
   header-past h =
-      let e : drop (256 * d) (take (256 * k .datas) p) ≡ [] = drop-of-length-le (take (256 * k .datas) p) {i = 256 * d} (omega (arith, length-take (256 * k .datas) p)) in
+      let e : drop (ENTRY-BYTES * d) (take (ENTRY-BYTES * k .datas) p) ≡ [] = drop-of-length-le (take (ENTRY-BYTES * k .datas) p) {i = ENTRY-BYTES * d} (omega (arith, length-take (ENTRY-BYTES * k .datas) p)) in
       rw e
 
 -- stores past the end do nothing
@@ -95,9 +96,9 @@ sets-out l i [] h = refl
 sets-out l i (x ∷ m) h = rw (set-out l i x h) (sets-out l (suc i) m (omega arith))
 
 -- nor do bytes written past the area
-pub write-out : (s : State) (d i : ℕ) (m : List ℕ) → length (s PAYLOAD) ≤ 256 * d + i → write s d i m ≡ s
+pub write-out : (s : State) (d i : ℕ) (m : List ℕ) → length (s PAYLOAD) ≤ ENTRY-BYTES * d + i → write s d i m ≡ s
 unfolding write with-col
-write-out s d i m h = fun-ext (λ c. split (eqb c PAYLOAD) (λ q. rw (q, sets-out (s PAYLOAD) (256 * d + i) m h, eqb-true c PAYLOAD q)) (λ q. rw q))
+write-out s d i m h = fun-ext (λ c. split (eqb c PAYLOAD) (λ q. rw (q, sets-out (s PAYLOAD) (ENTRY-BYTES * d + i) m h, eqb-true c PAYLOAD q)) (λ q. rw q))
 
 -- ---- room for a message: there is a mailbox entry, and a data entry
 module _ (k : Caps) (s : State) (h : hasRoom k s ≡ true) where

@@ -5,6 +5,7 @@ ghost use Prim.Native.Nat.{_≤_, _<_};
 ghost use lib.ListN.{length};
 ghost use Rattle.records.specs.Bytes.{le};
 ghost use Rattle.tables.specs.Columns.{ARRIVED, DATA-FREE, LENGTH, QUEUED, SENDER, WANT-CLASS, WANT-SENDER, WANT-TAG};
+ghost use Rattle.tables.specs.Limits.{PAYLOAD-MOST, SAFE};
 ghost use Rattle.tables.specs.State.{at, head, poke, view, Room, Left};
 ghost use Rattle.tables.specs.Action.{takeBit, freeBit, write, blank};
 ghost use Rattle.rules.specs.Terms.{header, wants, fits};
@@ -16,6 +17,8 @@ use records::bytes::load32;
 use records::bytes::store32;
 use records::header::class_of;
 use records::header::tag_of;
+use rules::states::MESSAGE;
+use rules::states::WAITS;
 use tables::Caps;
 use tables::columns::ARRIVAL;
 use tables::columns::ARRIVED;
@@ -32,24 +35,15 @@ use tables::columns::WANT_SENDER;
 use tables::columns::WANT_TAG;
 use tables::free::free_bit;
 use tables::free::take_bit;
+use tables::limits::ANY_CLASS;
+use tables::limits::ANY_SENDER;
+use tables::limits::ANY_TAG;
+use tables::limits::ENTRY_BYTES;
 use tables::lists::pull;
 use tables::lists::push;
 use tables::payload;
 use tables::words::get;
 use tables::words::put;
-
-// The word of a slot whose actor waits.
-const WAITS: u64 = 3;
-
-// The numbers of a filter that stand for any.
-const ANY_SENDER: u64 = 4_294_967_295;
-
-const ANY_CLASS: u64 = 15;
-
-const ANY_TAG: u64 = 134_217_727;
-
-// Why an actor becomes runnable that a message wakes.
-const MESSAGE: u64 = 1;
 
 // ---- what a data entry holds
 // The header of data entry d; 0 past the last entry.
@@ -58,7 +52,7 @@ pub fn header_at(t: &[u64], p: &[u8], k: Caps, d: u64) -> u32
     ensures { λ r. ⌜ r ≡ header (view k (now (t .entry)) (now (p .entry))) d ⌝ }
 {
     if d < k.datas as u64 {
-        return load32(p, 256 * (d as usize));
+        return load32(p, ENTRY_BYTES * (d as usize));
     }
     0
 }
@@ -78,12 +72,12 @@ fn put_header(t: &[u64], p: &mut [u8], k: Caps, d: u64, header: u32)
     requires { ⌜ Room k (now t) (now p) × (d < k .datas) ⌝ }
     ensures { λ _. ⌜ Left k (write (view k (now (t .entry)) (now (p .entry))) d 0 (le 4 header)) (now (t .entry)) (now (p .exit)) ⌝ }
 {
-    store32(p, 256 * (d as usize), header);
+    store32(p, ENTRY_BYTES * (d as usize), header);
 }
 
 // Data entry d is taken, and holds a message.
 pub fn fill(t: &mut [u64], p: &mut [u8], k: Caps, d: u64, sender: u64, header: u32, payload: &[u8])
-    requires { ⌜ Room k (now t) (now p) × (d < k .datas) × (length (now payload) ≤ 252) ⌝ }
+    requires { ⌜ Room k (now t) (now p) × (d < k .datas) × (length (now payload) ≤ PAYLOAD-MOST) ⌝ }
     ensures { λ _. ⌜ Left k (fill (view k (now (t .entry)) (now (p .entry))) d sender header (now (payload .entry))) (now (t .exit)) (now (p .exit)) ⌝ }
 {
     mark(t, p, k, d, sender, payload.len() as u64);
@@ -136,7 +130,7 @@ pub fn let_go(t: &mut [u64], p: &mut [u8], k: Caps, a: u64)
 // ---- whose mailbox names it
 // Mailbox entry e is taken, names data entry d, and joins the tail of slot a's mailbox.
 pub fn enlist(t: &mut [u64], p: &[u8], k: Caps, e: u64, a: u64, d: u64)
-    requires { ⌜ Room k (now t) (now p) × (a < 4096) × (d < 4096) × (head (view k (now t) (now p)) ARRIVED ≤ 4096) ⌝ }
+    requires { ⌜ Room k (now t) (now p) × (a < SAFE) × (d < SAFE) × (head (view k (now t) (now p)) ARRIVED ≤ SAFE) ⌝ }
     ensures { λ _. ⌜ Left k (enlist (view k (now (t .entry)) (now (p .entry))) e a d) (now (t .exit)) (now (p .entry)) ⌝ }
 {
     take_bit(t, p, k, MAIL_FREE, e);
@@ -204,7 +198,7 @@ pub fn hears(t: &[u64], p: &[u8], k: Caps, a: u64, sender: u64, header: u32) -> 
 
 // Slot a becomes runnable if it waits for such a message.
 pub fn stir(t: &mut [u64], p: &[u8], k: Caps, a: u64, sender: u64, header: u32)
-    requires { ⌜ Room k (now t) (now p) × (head (view k (now t) (now p)) QUEUED ≤ 4096) ⌝ }
+    requires { ⌜ Room k (now t) (now p) × (head (view k (now t) (now p)) QUEUED ≤ SAFE) ⌝ }
     ensures { λ _. ⌜ Left k (stir (view k (now (t .entry)) (now (p .entry))) a sender header) (now (t .exit)) (now (p .entry)) ⌝ }
 {
     if hears(t, p, k, a, sender, header) {
@@ -214,7 +208,7 @@ pub fn stir(t: &mut [u64], p: &[u8], k: Caps, a: u64, sender: u64, header: u32)
 
 // A message to slot a, for which there is room.
 pub fn post(t: &mut [u64], p: &mut [u8], k: Caps, a: u64, sender: u64, header: u32, payload: &[u8])
-    requires { ⌜ Room k (now t) (now p) × (hasRoom k (view k (now t) (now p)) ≡ true) × (length (now payload) ≤ 252) × (a < 4096) × (head (view k (now t) (now p)) QUEUED ≤ 4096) × (head (view k (now t) (now p)) ARRIVED ≤ 4096) ⌝ }
+    requires { ⌜ Room k (now t) (now p) × (hasRoom k (view k (now t) (now p)) ≡ true) × (length (now payload) ≤ PAYLOAD-MOST) × (a < SAFE) × (head (view k (now t) (now p)) QUEUED ≤ SAFE) × (head (view k (now t) (now p)) ARRIVED ≤ SAFE) ⌝ }
     ensures { λ _. ⌜ Left k (post k (view k (now (t .entry)) (now (p .entry))) a sender header (now (payload .entry))) (now (t .exit)) (now (p .exit)) ⌝ }
 {
     let d = data_for(t, p, k);

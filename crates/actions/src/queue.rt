@@ -5,6 +5,7 @@ ghost use Prim.Native.Nat.{suc, _<_};
 ghost use lib.Dec.{eqb};
 ghost use Rattle.records.specs.Header.{classOf, tagOf};
 ghost use Rattle.tables.specs.Columns.{ARRIVAL, MAIL-OWNER, PRIORITY, QUEUE, SENDER};
+ghost use Rattle.tables.specs.Limits.{SAFE};
 ghost use Rattle.tables.specs.State.{at, view, Room};
 ghost use Rattle.rules.specs.Terms.{fits, header};
 ghost use Rattle.rules.specs.Calls.{levelHead, firstHead, matchAt, firstMatch, dataOf, firstOf};
@@ -80,7 +81,7 @@ pub fn data_of(t: &[u64], p: &[u8], k: Caps, j: u64) -> u64
 
 // Is the i-th arrival slot a's?
 fn is_mine(t: &[u64], p: &[u8], k: Caps, a: u64, i: u64) -> bool
-    requires { ⌜ Room k (now t) (now p) × (a < 4096) ⌝ }
+    requires { ⌜ Room k (now t) (now p) × (a < SAFE) ⌝ }
     ensures { λ r. ⌜ r ≡ eqb (at (view k (now (t .entry)) (now (p .entry))) MAIL-OWNER (at (view k (now (t .entry)) (now (p .entry))) ARRIVAL i)) (suc a) ⌝ }
 {
     let e = get(t, p, k, ARRIVAL, i);
@@ -106,7 +107,7 @@ fn fits_entry(t: &[u64], p: &[u8], k: Caps, sender: u64, class: u64, tag: u64, d
 
 // Is the i-th arrival slot a's, and does the filter match it?
 fn match_at(t: &[u64], p: &[u8], k: Caps, a: u64, sender: u64, class: u64, tag: u64, i: u64) -> bool
-    requires { ⌜ Room k (now t) (now p) × (a < 4096) ⌝ }
+    requires { ⌜ Room k (now t) (now p) × (a < SAFE) ⌝ }
     ensures { λ r. ⌜ r ≡ matchAt (view k (now (t .entry)) (now (p .entry))) a sender class tag i ⌝ }
 {
     let mine = is_mine(t, p, k, a, i);
@@ -116,7 +117,7 @@ fn match_at(t: &[u64], p: &[u8], k: Caps, a: u64, sender: u64, class: u64, tag: 
 
 // The first arrival of slot a that the filter matches; past the arrivals where there is none.
 pub fn first_match(t: &[u64], p: &[u8], k: Caps, a: u64, sender: u64, class: u64, tag: u64) -> u64
-    requires { ⌜ Room k (now t) (now p) × (a < 4096) ⌝ }
+    requires { ⌜ Room k (now t) (now p) × (a < SAFE) ⌝ }
     ensures { λ r. ⌜ r ≡ firstMatch (view k (now (t .entry)) (now (p .entry))) a sender class tag ⌝ }
 {
     let n = get(t, p, k, ARRIVED, 0);
@@ -132,7 +133,7 @@ pub fn first_match(t: &[u64], p: &[u8], k: Caps, a: u64, sender: u64, class: u64
 
 // The first arrival of slot a; past the arrivals where there is none.
 pub fn first_of(t: &[u64], p: &[u8], k: Caps, a: u64) -> u64
-    requires { ⌜ Room k (now t) (now p) × (a < 4096) ⌝ }
+    requires { ⌜ Room k (now t) (now p) × (a < SAFE) ⌝ }
     ensures { λ r. ⌜ r ≡ firstOf (view k (now (t .entry)) (now (p .entry))) a ⌝ }
 {
     let n = get(t, p, k, ARRIVED, 0);

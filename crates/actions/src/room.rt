@@ -16,9 +16,7 @@ use tables::columns::WATCHER;
 use tables::free::lowest_bit;
 use tables::free::lowest_slot;
 use tables::free::lowest_unused;
-
-// The largest age: a slot that has it is worn.
-const OLDEST: u64 = 33_000_000;
+use tables::limits::OLDEST;
 
 // The slot for a new actor.
 pub fn slot_for(t: &[u64], p: &[u8], k: Caps) -> u64

@@ -1,8 +1,10 @@
 // Who runs, who can run, and who waits.
 ghost use Prim.Native.Nat.{_≤_};
 ghost use Rattle.tables.specs.Columns.{QUEUED};
+ghost use Rattle.tables.specs.Limits.{SAFE};
 ghost use Rattle.tables.specs.State.{head, view, Room, Left};
 ghost use Rattle.rules.specs.Actions.{ready, unwait, wake, halt};
+use rules::states::RUNNABLE;
 use tables::Caps;
 use tables::columns::DEADLINE;
 use tables::columns::QUEUE;
@@ -16,12 +18,9 @@ use tables::columns::WANT_TAG;
 use tables::lists::push;
 use tables::words::put;
 
-// The word of a slot whose actor can run.
-const RUNNABLE: u64 = 1;
-
 // Slot a becomes runnable for a reason, and joins the tail of the queue.
 pub fn ready(t: &mut [u64], p: &[u8], k: Caps, a: u64, reason: u64)
-    requires { ⌜ Room k (now t) (now p) × (head (view k (now t) (now p)) QUEUED ≤ 4096) ⌝ }
+    requires { ⌜ Room k (now t) (now p) × (head (view k (now t) (now p)) QUEUED ≤ SAFE) ⌝ }
     ensures { λ _. ⌜ Left k (ready (view k (now (t .entry)) (now (p .entry))) a reason) (now (t .exit)) (now (p .entry)) ⌝ }
 {
     put(t, p, k, STATE, a, RUNNABLE);
@@ -42,7 +41,7 @@ pub fn unwait(t: &mut [u64], p: &[u8], k: Caps, a: u64)
 
 // Slot a, which waits, becomes runnable.
 pub fn wake(t: &mut [u64], p: &[u8], k: Caps, a: u64, reason: u64)
-    requires { ⌜ Room k (now t) (now p) × (head (view k (now t) (now p)) QUEUED ≤ 4096) ⌝ }
+    requires { ⌜ Room k (now t) (now p) × (head (view k (now t) (now p)) QUEUED ≤ SAFE) ⌝ }
     ensures { λ _. ⌜ Left k (wake (view k (now (t .entry)) (now (p .entry))) a reason) (now (t .exit)) (now (p .entry)) ⌝ }
 {
     unwait(t, p, k, a);

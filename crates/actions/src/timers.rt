@@ -1,6 +1,7 @@
 // Timers.
 ghost use Prim.Native.Nat.{_≤_, _<_, _^_};
 ghost use Rattle.tables.specs.Columns.{CLOCK, INTERVAL, TIMER-AGE};
+ghost use Rattle.tables.specs.Limits.{CLOCK-END, LONGEST, SAFE};
 ghost use Rattle.tables.specs.State.{at, head, view, Room, Left};
 ghost use Rattle.rules.specs.Calls.{arm, disarm, rearm};
 use tables::Caps;
@@ -14,7 +15,7 @@ use tables::words::put;
 
 // A use of timer slot i begins: it is slot a's, and due at a time. An interval of 0 is a one-shot's.
 pub fn arm(t: &mut [u64], p: &[u8], k: Caps, i: u64, a: u64, time: u64, interval: u64)
-    requires { ⌜ Room k (now t) (now p) × (at (view k (now t) (now p)) TIMER-AGE i < 2 ^ 32) × (a < 4096) ⌝ }
+    requires { ⌜ Room k (now t) (now p) × (at (view k (now t) (now p)) TIMER-AGE i < 2 ^ 32) × (a < SAFE) ⌝ }
     ensures { λ _. ⌜ Left k (arm (view k (now (t .entry)) (now (p .entry))) i a time interval) (now (t .exit)) (now (p .entry)) ⌝ }
 {
     let age = get(t, p, k, TIMER_AGE, i);
@@ -36,7 +37,7 @@ pub fn disarm(t: &mut [u64], p: &[u8], k: Caps, i: u64)
 
 // Timer i fires: a one-shot ends, a periodic one is next due an interval from now.
 pub fn rearm(t: &mut [u64], p: &[u8], k: Caps, i: u64)
-    requires { ⌜ Room k (now t) (now p) × (head (view k (now t) (now p)) CLOCK ≤ 2 ^ 62) × (at (view k (now t) (now p)) INTERVAL i ≤ 2 ^ 62) ⌝ }
+    requires { ⌜ Room k (now t) (now p) × (head (view k (now t) (now p)) CLOCK ≤ CLOCK-END) × (at (view k (now t) (now p)) INTERVAL i ≤ LONGEST) ⌝ }
     ensures { λ _. ⌜ Left k (rearm (view k (now (t .entry)) (now (p .entry))) i) (now (t .exit)) (now (p .entry)) ⌝ }
 {
     let interval = get(t, p, k, INTERVAL, i);

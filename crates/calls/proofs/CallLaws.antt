@@ -1,5 +1,5 @@
 -- What a good state says of the numbers that the calls reckon with. Assumes nothing.
-use Prim.Native.Nat.{ℕ, zero, suc, _+_, _-_, _*_, _^_, _≤_, _<_}
+use Prim.Native.Nat.{ℕ, zero, suc, _+_, _-_, _*_, _≤_, _<_}
 use mathlib.Core.Path.{_≡_, refl, sym, _∙_}
 use mathlib.Core.Bool.{Bool, true, false, not, _&&_, _||_}
 use mathlib.Core.List.{List, [], _∷_}
@@ -12,12 +12,13 @@ use Rattle.pools.proofs.BoolLaws.{split, true-false}
 use Rattle.tables.specs.declared.Caps.{Caps}
 use Rattle.pools.specs.Bits.{free}
 use Rattle.tables.specs.Columns.{AGE, ARRIVED, CLOCK, DATA-FREE, DEADLINE, DUE, HAND, LENGTH, MAIL-DATA, MAIL-FREE, MONITOR-AGE, PAYLOAD, REST, TIMER-AGE, TIMER-OWNER}
+use Rattle.tables.specs.Limits.{ACTOR-FACTOR, DEADLINE-END, DUE-END, ENTRY-BYTES, OLDEST, PAYLOAD-MOST}
 use Rattle.tables.specs.State.{State, at, cut, head, poke, size, view, with-col, Room}
 use Rattle.tables.specs.Action.{freeBit, write}
 use Rattle.rules.specs.Actions.{letGo, unfill}
 use Rattle.rules.specs.Calls.{dataOf}
 use Rattle.rules.specs.Sound.{Ready}
-use Rattle.rules.specs.Terms.{OLDEST, runner}
+use Rattle.rules.specs.Terms.{runner}
 use Rattle.rules.proofs.Good.{Good}
 use Rattle.rules.proofs.Ready.{good-ready}
 
@@ -92,16 +93,16 @@ module _ {k : Caps} {s : State} (g : Good k s) where
   monitor-age-fits = every-word MONITOR-AGE OLDEST (omega arith) (λ i l. g .monitors i l .0 .0)
 
   -- times
-  pub due-fits : (i : ℕ) → at s DUE i ≤ 2 ^ 62 + 2 ^ 32
+  pub due-fits : (i : ℕ) → at s DUE i ≤ DUE-END
   due-fits =
-      every-word DUE (2 ^ 62 + 2 ^ 32) (omega arith)
+      every-word DUE DUE-END (omega arith)
       (λ i l. split (eqb (at s TIMER-OWNER i) 0)
       (λ q. let z = g .timers i l .1 .0 (eqb-true _ _ q) .0 in omega arith)
       (λ q. g .timers i l .1 .1 (eqb-false _ _ q) .1 .0))
 
-  pub deadline-fits : (a : ℕ) → at s DEADLINE a ≤ 2 ^ 62 + 2 ^ 41
+  pub deadline-fits : (a : ℕ) → at s DEADLINE a ≤ DEADLINE-END
   deadline-fits =
-      every-word DEADLINE (2 ^ 62 + 2 ^ 41) (omega arith)
+      every-word DEADLINE DEADLINE-END (omega arith)
       (λ a l. split (eqb (at s DEADLINE a) 0)
       (λ q. let z : at s DEADLINE a ≡ 0 = eqb-true (at s DEADLINE a) 0 q in omega arith)
       (λ q. g .waits a l .1 .1 (eqb-false _ _ q) .1))
@@ -118,15 +119,15 @@ module _ {k : Caps} {s : State} (g : Good k s) where
       (λ q. g .mails e l .1 (rw q) .1 .1))
 
   -- "Payloads are 0 to 252 bytes"
-  pub length-fits : (d : ℕ) → at s LENGTH d ≤ 252
+  pub length-fits : (d : ℕ) → at s LENGTH d ≤ PAYLOAD-MOST
   length-fits =
-      every-word LENGTH 252 (omega arith)
+      every-word LENGTH PAYLOAD-MOST (omega arith)
       (λ d l. split (free (s DATA-FREE) d)
       (λ q. let z = g .datas d l .0 q .0 .1 in omega arith)
       (λ q. g .datas d l .1 (rw q) .0 .1 .0))
 
 -- the running actor's slot is one of them, and its id fits
-pub runner-fits : {k : Caps} {w p : List ℕ} {r : ℕ} → Ready k w p → r ≡ runner (view k w p) → Room k w p × (r - 1 < 64) × (at (view k w p) AGE (r - 1) ≤ OLDEST)
+pub runner-fits : {k : Caps} {w p : List ℕ} {r : ℕ} → Ready k w p → r ≡ runner (view k w p) → Room k w p × (r - 1 < ACTOR-FACTOR) × (at (view k w p) AGE (r - 1) ≤ OLDEST)
 runner-fits {k} {w} {p} {r} c e =
     let g = good-ready k w p c in (c .room, omega (arith, g .head .0 .1, g .range), age-fits g (r - 1))
 
@@ -153,6 +154,6 @@ part-take (suc N) (suc m) n [] h = refl
 part-take (suc N) (suc m) n (x ∷ l) h = part-take N m n l (omega arith)
 
 -- a part of the area is that part of the buffer
-pub payload-part : (k : Caps) (w p : List ℕ) (m n : ℕ) → m + n ≤ 256 * k .datas → take n (drop m (view k w p PAYLOAD)) ≡ take n (drop m p)
+pub payload-part : (k : Caps) (w p : List ℕ) (m n : ℕ) → m + n ≤ ENTRY-BYTES * k .datas → take n (drop m (view k w p PAYLOAD)) ≡ take n (drop m p)
 unfolding view cut
-payload-part k w p m n h = part-take (256 * k .datas) m n p h
+payload-part k w p m n h = part-take (ENTRY-BYTES * k .datas) m n p h

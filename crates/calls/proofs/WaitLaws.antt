@@ -10,6 +10,7 @@ use lib.Dec.{T, eqb, ltb}
 use lib.IntN.{ℤ, pos, negsuc, natAbs}
 use borrow.Author.Tests.{eq-eqb, eqb-true, le-ltb, ltb-false, ne-eqb}
 use Rattle.pools.proofs.BoolLaws.{same-bool, true-false}
+use Rattle.tables.specs.Limits.{LONGEST-WAIT}
 use Rattle.rules.specs.Calls.{badWait, deadlineAt, notAtAll}
 
 pub wait-zero : (z : ℤ) → SFits w64 z → eqb (ofZ w64 z) 0 ≡ notAtAll z
@@ -30,7 +31,7 @@ ever-deadline clock (pos n) h = true-false (ltb n 0) h (le-ltb n 0 (omega arith)
 ever-deadline clock (negsuc n) h = refl
 
 -- from 0 on
-pub wait-long : (z : ℤ) → ltZ z (pos 0) ≡ false → ltZ (pos (2 ^ 31 - 1)) z ≡ badWait z
+pub wait-long : (z : ℤ) → ltZ z (pos 0) ≡ false → ltZ (pos LONGEST-WAIT) z ≡ badWait z
 wait-long (pos n) h = refl
 wait-long (negsuc n) h = true-false true refl h
 
@@ -38,8 +39,8 @@ pub wait-from : (z : ℤ) → ltZ z (pos 0) ≡ false → T (nonNeg z)
 wait-from (pos n) h = tt
 wait-from (negsuc n) h = true-false true refl h
 
-pub wait-few : (z : ℤ) → ltZ z (pos 0) ≡ false → badWait z ≡ false → natAbs z ≤ 2 ^ 31 - 1
-wait-few (pos n) h b = ltb-false (2 ^ 31 - 1) n b
+pub wait-few : (z : ℤ) → ltZ z (pos 0) ≡ false → badWait z ≡ false → natAbs z ≤ LONGEST-WAIT
+wait-few (pos n) h b = ltb-false LONGEST-WAIT n b
 wait-few (negsuc n) h b = true-false true refl h
 
 pub wait-deadline : (clock : ℕ) (z : ℤ) → ltZ z (pos 0) ≡ false → clock + 1000 * natAbs z ≡ deadlineAt clock z

@@ -2,20 +2,22 @@
 ghost use mathlib.Core.Path.{_≡_};
 ghost use Prim.Native.Nat.{_<_, _≤_};
 ghost use Rattle.tables.specs.Columns.{AGE};
+ghost use Rattle.tables.specs.Limits.{ACTOR-FACTOR, OLDEST};
 ghost use Rattle.tables.specs.State.{at, view, Room};
-ghost use Rattle.rules.specs.Terms.{OLDEST, actorId, isActor};
+ghost use Rattle.rules.specs.Terms.{actorId, isActor};
 use tables::Caps;
 use tables::columns::AGE;
 use tables::columns::STATE;
 use tables::free::is_live;
+use tables::limits::ACTOR_FACTOR;
 use tables::words::get;
 
 // The id of the present use of slot a.
 pub fn actor_id(t: &[u64], p: &[u8], k: Caps, a: u64) -> u64
-    requires { ⌜ Room k (now t) (now p) × (a < 64) × (at (view k (now t) (now p)) AGE a ≤ OLDEST) ⌝ }
+    requires { ⌜ Room k (now t) (now p) × (a < ACTOR-FACTOR) × (at (view k (now t) (now p)) AGE a ≤ OLDEST) ⌝ }
     ensures { λ r. ⌜ r ≡ actorId (view k (now (t .entry)) (now (p .entry))) a ⌝ }
 {
-    get(t, p, k, AGE, a) * 64 + a
+    get(t, p, k, AGE, a) * ACTOR_FACTOR + a
 }
 
 // Is id that of a live actor?
@@ -23,5 +25,5 @@ pub fn is_actor(t: &[u64], p: &[u8], k: Caps, id: u64) -> bool
     requires { ⌜ Room k (now t) (now p) ⌝ }
     ensures { λ r. ⌜ r ≡ isActor (view k (now (t .entry)) (now (p .entry))) id ⌝ }
 {
-    is_live(t, p, k, STATE, AGE, 64, id)
+    is_live(t, p, k, STATE, AGE, ACTOR_FACTOR, id)
 }

@@ -1,12 +1,14 @@
 // Receive.
 ghost use mathlib.Core.Path.{_≡_};
 ghost use mathlib.Core.Bool.{false};
-ghost use Prim.Native.Nat.{ℕ, _<_, _≤_, _^_};
+ghost use Prim.Native.Nat.{ℕ, _<_, _≤_};
 ghost use Rattle.tables.specs.Columns.{ARRIVED, CLOCK};
+ghost use Rattle.tables.specs.Limits.{CLOCK-END, SAFE};
 ghost use Rattle.tables.specs.State.{head, view, Room, Left};
 ghost use Rattle.rules.specs.Sound.{Ready};
 ghost use Rattle.rules.specs.Terms.{legal};
-ghost use Rattle.rules.specs.Calls.{await, badWait, dataOf, deadlineAt, handOver, noMessage, notAtAll, receiveBare, received, receiveRule};
+ghost use Rattle.rules.specs.Calls.{await, badWait, dataOf, deadlineAt, handOver, noMessage, notAtAll, receiveBare, receiveEntry, received, ruled};
+ghost use Rattle.rules.specs.Host.{Gives};
 use actions::messages::delist;
 use actions::messages::header_at;
 use actions::messages::let_go;
@@ -16,6 +18,7 @@ use actions::running::halt;
 use records::header::class_of;
 use records::header::tag_of;
 use rules::Received;
+use rules::states::WAITS;
 use tables::Caps;
 use tables::columns::ARRIVED;
 use tables::columns::CLOCK;
@@ -28,21 +31,12 @@ use tables::columns::STATE;
 use tables::columns::WANT_CLASS;
 use tables::columns::WANT_SENDER;
 use tables::columns::WANT_TAG;
+use tables::limits::ANY_CLASS;
+use tables::limits::ANY_SENDER;
+use tables::limits::ANY_TAG;
+use tables::limits::LONGEST_WAIT;
 use tables::words::get;
 use tables::words::put;
-
-// The word of a slot whose actor waits.
-const WAITS: u64 = 3;
-
-// The numbers of a filter that stand for any.
-const ANY_SENDER: u64 = 4_294_967_295;
-
-const ANY_CLASS: u64 = 15;
-
-const ANY_TAG: u64 = 134_217_727;
-
-// The longest wait, in milliseconds.
-const LONGEST: i64 = 2_147_483_647;
 
 // ---- what is asked
 // Can a filter have these numbers?
@@ -59,7 +53,7 @@ fn bad_wait(wait: i64) -> bool
     if wait < 0 {
         return wait != -1;
     }
-    LONGEST < wait
+    LONGEST_WAIT < wait
 }
 
 fn not_at_all(wait: i64) -> bool
@@ -70,7 +64,7 @@ fn not_at_all(wait: i64) -> bool
 
 // When a wait that begins now ends; 0 for one without end.
 fn deadline_at(clock: u64, wait: i64) -> u64
-    requires { ⌜ (clock ≤ 2 ^ 62) × (badWait wait ≡ false) ⌝ }
+    requires { ⌜ (clock ≤ CLOCK-END) × (badWait wait ≡ false) ⌝ }
     ensures { λ r. ⌜ r ≡ deadlineAt clock wait ⌝ }
 {
     if wait < 0 {
@@ -110,7 +104,7 @@ fn message(t: &[u64], p: &[u8], k: Caps, d: u64) -> Received
 // ---- what is done
 // The j-th arrival goes from its mailbox to the hand of slot a.
 fn hand_over(t: &mut [u64], p: &[u8], k: Caps, a: u64, j: u64) -> Received
-    requires { ⌜ Room k (now t) (now p) × (j < head (view k (now t) (now p)) ARRIVED) × (head (view k (now t) (now p)) ARRIVED ≤ k .mails) × (dataOf (view k (now t) (now p)) j < 4096) ⌝ }
+    requires { ⌜ Room k (now t) (now p) × (j < head (view k (now t) (now p)) ARRIVED) × (head (view k (now t) (now p)) ARRIVED ≤ k .mails) × (dataOf (view k (now t) (now p)) j < SAFE) ⌝ }
     ensures { λ r. ⌜ (r ≡ received (view k (now (t .entry)) (now (p .entry))) (dataOf (view k (now (t .entry)) (now (p .entry))) j)) × Left k (handOver (view k (now (t .entry)) (now (p .entry))) a j) (now (t .exit)) (now (p .entry)) ⌝ }
 {
     let d = data_of(t, p, k, j);
@@ -153,7 +147,7 @@ fn receive_bare(
     wait: i64,
     a: u64,
 ) -> Received
-    requires { ⌜ Room k (now t) (now p) × (a < 4096) × (head (view k (now t) (now p)) CLOCK ≤ 2 ^ 62) × (head (view k (now t) (now p)) ARRIVED ≤ k .mails) × ((j : ℕ) → dataOf (view k (now t) (now p)) j < 4096) × (badWait wait ≡ false) ⌝ }
+    requires { ⌜ Room k (now t) (now p) × (a < SAFE) × (head (view k (now t) (now p)) CLOCK ≤ CLOCK-END) × (head (view k (now t) (now p)) ARRIVED ≤ k .mails) × ((j : ℕ) → dataOf (view k (now t) (now p)) j < SAFE) × (badWait wait ≡ false) ⌝ }
     ensures { λ r. ⌜ (r ≡ receiveBare sender class tag wait a (view k (now (t .entry)) (now (p .entry))) .ans) × Left k (receiveBare sender class tag wait a (view k (now (t .entry)) (now (p .entry))) .state) (now (t .exit)) (now (p .entry)) ⌝ }
 {
     let j = first_match(t, p, k, a, sender, class, tag);
@@ -179,7 +173,7 @@ pub fn receive_in(
     wait: i64,
 ) -> Received
     requires { ⌜ Ready k (now t) (now p) ⌝ }
-    ensures { λ r. ⌜ (r ≡ receiveRule sender class tag wait k (view k (now (t .entry)) (now (p .entry))) .ans) × Left k (receiveRule sender class tag wait k (view k (now (t .entry)) (now (p .entry))) .state) (now (t .exit)) (now (p .exit)) ⌝ }
+    ensures { λ r. ⌜ Gives (ruled (receiveEntry sender class tag wait)) k (now (t .entry)) (now (p .entry)) r (now (t .exit)) (now (p .exit)) ⌝ }
 {
     let r = get(t, p, k, RUNNING, 0);
     if r == 0 {

@@ -4,11 +4,13 @@ ghost use Prim.Native.Nat.{_+_, _<_, _≤_};
 ghost use lib.IntN.{pos};
 ghost use Rattle.pools.specs.Slot.{idOf};
 ghost use Rattle.tables.specs.Columns.{AGE, PRIORITY, QUEUED, REASON};
+ghost use Rattle.tables.specs.Limits.{ACTOR-FACTOR, OLDEST, SAFE};
 ghost use Rattle.tables.specs.State.{at, head, poke, view, Room, Left};
 ghost use Rattle.rules.specs.Sound.{Ready};
-ghost use Rattle.rules.specs.Terms.{OLDEST, actorId};
+ghost use Rattle.rules.specs.Terms.{actorId};
 ghost use Rattle.rules.specs.Actions.{ready};
-ghost use Rattle.rules.specs.Calls.{made, run, spawnRule, nextRule, yieldRule, reportRule};
+ghost use Rattle.rules.specs.Calls.{made, nextEntry, reportEntry, ruled, run, spawnEntry, yieldEntry};
+ghost use Rattle.rules.specs.Host.{Gives};
 use crate::ids::actor_id;
 use crate::sleeping::sleep;
 use actions::queue::first_head;
@@ -18,6 +20,7 @@ use actions::running::ready;
 use rules::Made;
 use rules::Report;
 use rules::Turn;
+use rules::states::RUNS;
 use tables::Caps;
 use tables::columns::AGE;
 use tables::columns::DATA_FREE;
@@ -36,21 +39,17 @@ use tables::columns::WATCHER;
 use tables::free::count_bits;
 use tables::free::count_slots;
 use tables::free::count_unused;
+use tables::limits::ACTOR_FACTOR;
+use tables::limits::OLDEST;
 use tables::lists::pull;
 use tables::words::get;
 use tables::words::put;
 
-// The word of a slot whose actor runs.
-const RUNS: u64 = 2;
-
-// The largest age: a slot that has it is worn.
-const OLDEST: u64 = 33_000_000;
-
 // ---- spawn
 // A use of slot a begins, at the tail of its level.
 fn begin(t: &mut [u64], p: &[u8], k: Caps, a: u64, priority: u64) -> Made
-    requires { ⌜ Room k (now t) (now p) × (a < 64) × (at (view k (now t) (now p)) AGE a ≤ OLDEST) × (head (view k (now t) (now p)) QUEUED ≤ 4096) ⌝ }
-    ensures { λ r. ⌜ (r ≡ made 0 (idOf 64 (at (view k (now (t .entry)) (now (p .entry))) AGE a + 1) a)) × Left k (ready (poke (poke (view k (now (t .entry)) (now (p .entry))) AGE a (at (view k (now (t .entry)) (now (p .entry))) AGE a + 1)) PRIORITY a priority) a 0) (now (t .exit)) (now (p .entry)) ⌝ }
+    requires { ⌜ Room k (now t) (now p) × (a < ACTOR-FACTOR) × (at (view k (now t) (now p)) AGE a ≤ OLDEST) × (head (view k (now t) (now p)) QUEUED ≤ SAFE) ⌝ }
+    ensures { λ r. ⌜ (r ≡ made 0 (idOf ACTOR-FACTOR (at (view k (now (t .entry)) (now (p .entry))) AGE a + 1) a)) × Left k (ready (poke (poke (view k (now (t .entry)) (now (p .entry))) AGE a (at (view k (now (t .entry)) (now (p .entry))) AGE a + 1)) PRIORITY a priority) a 0) (now (t .exit)) (now (p .entry)) ⌝ }
 {
     let age = get(t, p, k, AGE, a) + 1;
     put(t, p, k, AGE, a, age);
@@ -58,14 +57,14 @@ fn begin(t: &mut [u64], p: &[u8], k: Caps, a: u64, priority: u64) -> Made
     ready(t, p, k, a, 0);
     Made {
         no: 0,
-        id: age * 64 + a,
+        id: age * ACTOR_FACTOR + a,
     }
 }
 
 // A new actor. 1: no such priority; 2: no slot.
 pub fn spawn_in(t: &mut [u64], p: &[u8], k: Caps, priority: u64) -> Made
     requires { ⌜ Ready k (now t) (now p) ⌝ }
-    ensures { λ r. ⌜ (r ≡ spawnRule priority k (view k (now (t .entry)) (now (p .entry))) .ans) × Left k (spawnRule priority k (view k (now (t .entry)) (now (p .entry))) .state) (now (t .exit)) (now (p .entry)) ⌝ }
+    ensures { λ r. ⌜ Gives (ruled (spawnEntry priority)) k (now (t .entry)) (now (p .entry)) r (now (t .exit)) (now (p .entry)) ⌝ }
 {
     if 3 < priority {
         return Made { no: 1, id: 0 };
@@ -80,7 +79,7 @@ pub fn spawn_in(t: &mut [u64], p: &[u8], k: Caps, priority: u64) -> Made
 // ---- next
 // Slot a, the j-th of the queue, runs.
 fn run(t: &mut [u64], p: &[u8], k: Caps, a: u64, j: u64)
-    requires { ⌜ Room k (now t) (now p) × (a < 64) × (j < head (view k (now t) (now p)) QUEUED) × (head (view k (now t) (now p)) QUEUED ≤ k .actors) ⌝ }
+    requires { ⌜ Room k (now t) (now p) × (a < ACTOR-FACTOR) × (j < head (view k (now t) (now p)) QUEUED) × (head (view k (now t) (now p)) QUEUED ≤ k .actors) ⌝ }
     ensures { λ _. ⌜ Left k (run (view k (now (t .entry)) (now (p .entry))) a j) (now (t .exit)) (now (p .entry)) ⌝ }
 {
     pull(t, p, k, QUEUE, QUEUED, j);
@@ -91,7 +90,7 @@ fn run(t: &mut [u64], p: &[u8], k: Caps, a: u64, j: u64)
 
 // The same, with who it is and why it was runnable.
 fn take_turn(t: &mut [u64], p: &[u8], k: Caps, a: u64, j: u64) -> Turn
-    requires { ⌜ Room k (now t) (now p) × (a < 64) × (at (view k (now t) (now p)) AGE a ≤ OLDEST) × (j < head (view k (now t) (now p)) QUEUED) × (head (view k (now t) (now p)) QUEUED ≤ k .actors) ⌝ }
+    requires { ⌜ Room k (now t) (now p) × (a < ACTOR-FACTOR) × (at (view k (now t) (now p)) AGE a ≤ OLDEST) × (j < head (view k (now t) (now p)) QUEUED) × (head (view k (now t) (now p)) QUEUED ≤ k .actors) ⌝ }
     ensures { λ r. ⌜ (r ≡ record { no = 0; id = actorId (view k (now (t .entry)) (now (p .entry))) a; reason = at (view k (now (t .entry)) (now (p .entry))) REASON a; sleep = pos 0 }) × Left k (run (view k (now (t .entry)) (now (p .entry))) a j) (now (t .exit)) (now (p .entry)) ⌝ }
 {
     let id = actor_id(t, p, k, a);
@@ -108,7 +107,7 @@ fn take_turn(t: &mut [u64], p: &[u8], k: Caps, a: u64, j: u64) -> Turn
 // The head of the first level that is not empty runs. 4: somebody runs; 6: nobody can run.
 pub fn next_in(t: &mut [u64], p: &[u8], k: Caps) -> Turn
     requires { ⌜ Ready k (now t) (now p) ⌝ }
-    ensures { λ r. ⌜ (r ≡ nextRule k (view k (now (t .entry)) (now (p .entry))) .ans) × Left k (nextRule k (view k (now (t .entry)) (now (p .entry))) .state) (now (t .exit)) (now (p .entry)) ⌝ }
+    ensures { λ r. ⌜ Gives (ruled nextEntry) k (now (t .entry)) (now (p .entry)) r (now (t .exit)) (now (p .entry)) ⌝ }
 {
     if get(t, p, k, RUNNING, 0) != 0 {
         return Turn {
@@ -135,7 +134,7 @@ pub fn next_in(t: &mut [u64], p: &[u8], k: Caps) -> Turn
 // The running actor goes to the tail of its level. 4: nobody runs.
 pub fn yield_in(t: &mut [u64], p: &[u8], k: Caps) -> u64
     requires { ⌜ Ready k (now t) (now p) ⌝ }
-    ensures { λ r. ⌜ (r ≡ yieldRule k (view k (now (t .entry)) (now (p .entry))) .ans) × Left k (yieldRule k (view k (now (t .entry)) (now (p .entry))) .state) (now (t .exit)) (now (p .entry)) ⌝ }
+    ensures { λ r. ⌜ Gives (ruled yieldEntry) k (now (t .entry)) (now (p .entry)) r (now (t .exit)) (now (p .entry)) ⌝ }
 {
     let r = get(t, p, k, RUNNING, 0);
     if r == 0 {
@@ -150,7 +149,7 @@ pub fn yield_in(t: &mut [u64], p: &[u8], k: Caps) -> u64
 // The free entries of the six pools.
 pub fn report_in(t: &[u64], p: &[u8], k: Caps) -> Report
     requires { ⌜ Ready k (now t) (now p) ⌝ }
-    ensures { λ r. ⌜ (r ≡ reportRule k (view k (now (t .entry)) (now (p .entry))) .ans) × Left k (reportRule k (view k (now (t .entry)) (now (p .entry))) .state) (now (t .entry)) (now (p .entry)) ⌝ }
+    ensures { λ r. ⌜ Gives (ruled reportEntry) k (now (t .entry)) (now (p .entry)) r (now (t .entry)) (now (p .entry)) ⌝ }
 {
     let actors = count_slots(t, p, k, STATE, AGE, OLDEST);
     let mails = count_bits(t, p, k, MAIL_FREE, k.mails);

@@ -3,20 +3,19 @@ ghost use mathlib.Core.Path.{_≡_};
 ghost use Prim.Native.Nat.{_-_, _<_, _^_};
 ghost use lib.IntN.{pos};
 ghost use Rattle.tables.specs.Columns.{REST};
+ghost use Rattle.tables.specs.Limits.{ALWAYS};
 ghost use Rattle.tables.specs.State.{at, view, Room};
 ghost use Rattle.rules.specs.Sound.{Ready};
 ghost use Rattle.rules.specs.Actions.{earliest};
-ghost use Rattle.rules.specs.Calls.{ALWAYS, sleepFor, sleep};
+ghost use Rattle.rules.specs.Calls.{sleep, sleepFor};
 use actions::times::earliest;
 use tables::Caps;
 use tables::columns::CLOCK;
 use tables::columns::DEADLINE;
 use tables::columns::DUE;
 use tables::columns::TIMER_OWNER;
+use tables::limits::ALWAYS;
 use tables::words::get;
-
-// Later than every time.
-const ALWAYS: u64 = 0xffff_ffff_ffff_ffff;
 
 // The earliest of some entries, one up, and its time; entry 0's where there is none.
 struct Soon {

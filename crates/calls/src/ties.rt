@@ -1,8 +1,8 @@
 // What ties two actors: link, unlink, monitor, demonitor.
-ghost use mathlib.Core.Path.{_≡_};
-ghost use Rattle.tables.specs.State.{view, Room, Left};
+ghost use Rattle.tables.specs.State.{Room};
 ghost use Rattle.rules.specs.Sound.{Ready};
-ghost use Rattle.rules.specs.Calls.{demonitorRule, linkRule, monitorRule, unlinkRule};
+ghost use Rattle.rules.specs.Calls.{demonitorEntry, linkEntry, monitorEntry, ruled, unlinkEntry};
+ghost use Rattle.rules.specs.Host.{Gives};
 ghost use Rattle.calls.specs.Parts.{joinRule, watchRule};
 use crate::ids::actor_id;
 use crate::ids::is_actor;
@@ -18,13 +18,15 @@ use tables::columns::MONITOR_AGE;
 use tables::columns::RUNNING;
 use tables::columns::WATCHER;
 use tables::free::is_live;
+use tables::limits::ACTOR_FACTOR;
+use tables::limits::MONITOR_FACTOR;
 use tables::words::get;
 
 // ---- links
 // The slots a and b, written one up, are linked, if they are not yet. 2: no entry.
 fn join(t: &mut [u64], p: &[u8], k: Caps, a: u64, b: u64) -> u64
     requires { ⌜ Room k (now t) (now p) ⌝ }
-    ensures { λ r. ⌜ (r ≡ joinRule a b k (view k (now (t .entry)) (now (p .entry))) .ans) × Left k (joinRule a b k (view k (now (t .entry)) (now (p .entry))) .state) (now (t .exit)) (now (p .entry)) ⌝ }
+    ensures { λ r. ⌜ Gives (joinRule a b) k (now (t .entry)) (now (p .entry)) r (now (t .exit)) (now (p .entry)) ⌝ }
 {
     if link_of(t, p, k, a, b) < k.links as u64 {
         return 0;
@@ -40,7 +42,7 @@ fn join(t: &mut [u64], p: &[u8], k: Caps, a: u64, b: u64) -> u64
 // The running actor and a partner are linked. 4: nobody runs; 1: it is itself; 3: no such actor; 2: no entry.
 pub fn link_in(t: &mut [u64], p: &[u8], k: Caps, partner: u64) -> u64
     requires { ⌜ Ready k (now t) (now p) ⌝ }
-    ensures { λ r. ⌜ (r ≡ linkRule partner k (view k (now (t .entry)) (now (p .entry))) .ans) × Left k (linkRule partner k (view k (now (t .entry)) (now (p .entry))) .state) (now (t .exit)) (now (p .entry)) ⌝ }
+    ensures { λ r. ⌜ Gives (ruled (linkEntry partner)) k (now (t .entry)) (now (p .entry)) r (now (t .exit)) (now (p .entry)) ⌝ }
 {
     let r = get(t, p, k, RUNNING, 0);
     if r == 0 {
@@ -52,20 +54,20 @@ pub fn link_in(t: &mut [u64], p: &[u8], k: Caps, partner: u64) -> u64
     if !is_actor(t, p, k, partner) {
         return 3;
     }
-    join(t, p, k, r, partner % 64 + 1)
+    join(t, p, k, r, partner % ACTOR_FACTOR + 1)
 }
 
 // A link of the running actor is taken back. 4: nobody runs; 3: no such link.
 pub fn unlink_in(t: &mut [u64], p: &[u8], k: Caps, partner: u64) -> u64
     requires { ⌜ Ready k (now t) (now p) ⌝ }
-    ensures { λ r. ⌜ (r ≡ unlinkRule partner k (view k (now (t .entry)) (now (p .entry))) .ans) × Left k (unlinkRule partner k (view k (now (t .entry)) (now (p .entry))) .state) (now (t .exit)) (now (p .entry)) ⌝ }
+    ensures { λ r. ⌜ Gives (ruled (unlinkEntry partner)) k (now (t .entry)) (now (p .entry)) r (now (t .exit)) (now (p .entry)) ⌝ }
 {
     let r = get(t, p, k, RUNNING, 0);
     if r == 0 {
         return 4;
     }
     let live = is_actor(t, p, k, partner);
-    let e = link_of(t, p, k, r, partner % 64 + 1);
+    let e = link_of(t, p, k, r, partner % ACTOR_FACTOR + 1);
     if live & (e < k.links as u64) {
         tie(t, p, k, e, 0, 0);
         return 0;
@@ -77,7 +79,7 @@ pub fn unlink_in(t: &mut [u64], p: &[u8], k: Caps, partner: u64) -> u64
 // The slot a watches b, both written one up. 2: no slot.
 fn begin_watch(t: &mut [u64], p: &[u8], k: Caps, a: u64, b: u64) -> Made
     requires { ⌜ Ready k (now t) (now p) ⌝ }
-    ensures { λ r. ⌜ (r ≡ watchRule a b k (view k (now (t .entry)) (now (p .entry))) .ans) × Left k (watchRule a b k (view k (now (t .entry)) (now (p .entry))) .state) (now (t .exit)) (now (p .entry)) ⌝ }
+    ensures { λ r. ⌜ Gives (watchRule a b) k (now (t .entry)) (now (p .entry)) r (now (t .exit)) (now (p .entry)) ⌝ }
 {
     let i = monitor_for(t, p, k);
     if i < k.monitors as u64 {
@@ -85,7 +87,7 @@ fn begin_watch(t: &mut [u64], p: &[u8], k: Caps, a: u64, b: u64) -> Made
         watch(t, p, k, i, a, b);
         return Made {
             no: 0,
-            id: age * 128 + i,
+            id: age * MONITOR_FACTOR + i,
         };
     }
     Made { no: 2, id: 0 }
@@ -94,7 +96,7 @@ fn begin_watch(t: &mut [u64], p: &[u8], k: Caps, a: u64, b: u64) -> Made
 // The running actor watches another. 4: nobody runs; 1: it is itself; 3: no such actor; 2: no slot.
 pub fn monitor_in(t: &mut [u64], p: &[u8], k: Caps, target: u64) -> Made
     requires { ⌜ Ready k (now t) (now p) ⌝ }
-    ensures { λ r. ⌜ (r ≡ monitorRule target k (view k (now (t .entry)) (now (p .entry))) .ans) × Left k (monitorRule target k (view k (now (t .entry)) (now (p .entry))) .state) (now (t .exit)) (now (p .entry)) ⌝ }
+    ensures { λ r. ⌜ Gives (ruled (monitorEntry target)) k (now (t .entry)) (now (p .entry)) r (now (t .exit)) (now (p .entry)) ⌝ }
 {
     let r = get(t, p, k, RUNNING, 0);
     if r == 0 {
@@ -106,22 +108,22 @@ pub fn monitor_in(t: &mut [u64], p: &[u8], k: Caps, target: u64) -> Made
     if !is_actor(t, p, k, target) {
         return Made { no: 3, id: 0 };
     }
-    begin_watch(t, p, k, r, target % 64 + 1)
+    begin_watch(t, p, k, r, target % ACTOR_FACTOR + 1)
 }
 
 // A monitor of the running actor ends. 4: nobody runs; 3: it has no such monitor.
 pub fn demonitor_in(t: &mut [u64], p: &[u8], k: Caps, id: u64) -> u64
     requires { ⌜ Ready k (now t) (now p) ⌝ }
-    ensures { λ r. ⌜ (r ≡ demonitorRule id k (view k (now (t .entry)) (now (p .entry))) .ans) × Left k (demonitorRule id k (view k (now (t .entry)) (now (p .entry))) .state) (now (t .exit)) (now (p .entry)) ⌝ }
+    ensures { λ r. ⌜ Gives (ruled (demonitorEntry id)) k (now (t .entry)) (now (p .entry)) r (now (t .exit)) (now (p .entry)) ⌝ }
 {
     let r = get(t, p, k, RUNNING, 0);
     if r == 0 {
         return 4;
     }
-    let live = is_live(t, p, k, WATCHER, MONITOR_AGE, 128, id);
-    let owner = get(t, p, k, WATCHER, id % 128);
+    let live = is_live(t, p, k, WATCHER, MONITOR_AGE, MONITOR_FACTOR, id);
+    let owner = get(t, p, k, WATCHER, id % MONITOR_FACTOR);
     if live & (owner == r) {
-        unwatch(t, p, k, id % 128);
+        unwatch(t, p, k, id % MONITOR_FACTOR);
         return 0;
     }
     3

@@ -4,10 +4,12 @@ ghost use mathlib.Core.Bool.{true};
 ghost use Prim.Native.Nat.{_<_};
 ghost use Rattle.records.specs.Header.{packed};
 ghost use Rattle.records.specs.Records.{tickBytes};
+ghost use Rattle.tables.specs.Limits.{SAFE};
 ghost use Rattle.tables.specs.State.{view, Room, Left};
 ghost use Rattle.rules.specs.Sound.{Ready};
 ghost use Rattle.rules.specs.Actions.{hasRoom, post};
-ghost use Rattle.rules.specs.Calls.{fire, fired, fireAll, rouse, advanceRule};
+ghost use Rattle.rules.specs.Calls.{advanceEntry, fire, fireAll, fired, rouse, ruled};
+ghost use Rattle.rules.specs.Host.{Gives};
 ghost use Rattle.endings.specs.Asked.{Short, Fires, Raised};
 use actions::messages::post;
 use actions::room::has_room;
@@ -17,31 +19,26 @@ use actions::times::earliest;
 use records::header::pack;
 use records::tick::put_tick;
 use rules::Advanced;
+use rules::states::TIMEOUT;
 use tables::Caps;
 use tables::columns::CLOCK;
 use tables::columns::DEADLINE;
 use tables::columns::DUE;
 use tables::columns::TIMER_AGE;
 use tables::columns::TIMER_OWNER;
+use tables::limits::CLOCK_END;
+use tables::limits::LONGEST;
+use tables::limits::TIMER_FACTOR;
 use tables::words::get;
 use tables::words::put;
 
 // The class of a tick.
 const TICK: u32 = 3;
 
-// Why an actor becomes runnable whose deadline is past.
-const TIMEOUT: u64 = 2;
-
-// The most that one call adds to the clock, in microseconds.
-const LONGEST: u64 = 4_294_967_295;
-
-// The last time of the clock, 2^62.
-const CLOCK_END: u64 = 4_611_686_018_427_387_904;
-
 // ---- timers
 // The tick of a timer goes to slot a.
 fn send_tick(t: &mut [u64], p: &mut [u8], k: Caps, a: u64, id: u32)
-    requires { ⌜ Room k (now t) (now p) × (hasRoom k (view k (now t) (now p)) ≡ true) × Short (view k (now t) (now p)) × (a < 4096) ⌝ }
+    requires { ⌜ Room k (now t) (now p) × (hasRoom k (view k (now t) (now p)) ≡ true) × Short (view k (now t) (now p)) × (a < SAFE) ⌝ }
     ensures { λ _. ⌜ Left k (post k (view k (now (t .entry)) (now (p .entry))) a 0 (packed 3 1 0) (tickBytes id)) (now (t .exit)) (now (p .exit)) ⌝ }
 {
     let mut bytes = [0u8; 8];
@@ -57,7 +54,7 @@ fn fire(t: &mut [u64], p: &mut [u8], k: Caps, i: u64)
     let owner = get(t, p, k, TIMER_OWNER, i);
     let age = get(t, p, k, TIMER_AGE, i);
     rearm(t, p, k, i);
-    send_tick(t, p, k, owner - 1, (age * 64 + i) as u32);
+    send_tick(t, p, k, owner - 1, (age * TIMER_FACTOR + i) as u32);
 }
 
 // The due timers fire, by due time, equal ones by lower slot, while both message pools have room. How many did?
@@ -103,7 +100,7 @@ fn rouse(t: &mut [u64], p: &[u8], k: Caps)
 // The clock is raised. 1: by too much, or past its end.
 pub fn advance_in(t: &mut [u64], p: &mut [u8], k: Caps, micros: u64) -> Advanced
     requires { ⌜ Ready k (now t) (now p) ⌝ }
-    ensures { λ r. ⌜ (r ≡ advanceRule micros k (view k (now (t .entry)) (now (p .entry))) .ans) × Left k (advanceRule micros k (view k (now (t .entry)) (now (p .entry))) .state) (now (t .exit)) (now (p .exit)) ⌝ }
+    ensures { λ r. ⌜ Gives (ruled (advanceEntry micros)) k (now (t .entry)) (now (p .entry)) r (now (t .exit)) (now (p .exit)) ⌝ }
 {
     if LONGEST < micros {
         return Advanced { no: 1, fired: 0 };

@@ -1,10 +1,12 @@
 // Exit: the running actor ends.
 ghost use mathlib.Core.Path.{_≡_};
 ghost use Prim.Native.Nat.{suc, _<_};
+ghost use Rattle.tables.specs.Limits.{SAFE};
 ghost use Rattle.tables.specs.State.{view, Room, Left};
 ghost use Rattle.rules.specs.Sound.{Ready};
 ghost use Rattle.rules.specs.Terms.{actorId, runner};
-ghost use Rattle.rules.specs.Calls.{dropMonitors, dropTimers, leave, farewell, exitRule};
+ghost use Rattle.rules.specs.Calls.{dropMonitors, dropTimers, exitEntry, farewell, leave, ruled};
+ghost use Rattle.rules.specs.Host.{Gives};
 ghost use Rattle.endings.specs.Asked.{Good};
 ghost use Rattle.endings.specs.Counted.{Tells};
 use crate::leaving::drop_monitors;
@@ -20,10 +22,9 @@ use tables::Caps;
 use tables::columns::AGE;
 use tables::columns::ARRIVED;
 use tables::columns::RUNNING;
+use tables::limits::ACTOR_FACTOR;
+use tables::limits::LAST_REASON;
 use tables::words::get;
-
-// The largest reason of an exit.
-const REASON_MOST: u64 = 65_535;
 
 // All of an exit's order up to what the actor owns: its hand and its mailbox, its links, the monitors on it.
 fn farewell(t: &mut [u64], p: &mut [u8], k: Caps, a: u64, me: u32, reason: u16) -> Count
@@ -39,7 +40,7 @@ fn farewell(t: &mut [u64], p: &mut [u8], k: Caps, a: u64, me: u32, reason: u16) 
 
 // The rest: its own monitors, its timers, its slot.
 fn go(t: &mut [u64], p: &[u8], k: Caps, a: u64)
-    requires { ⌜ Room k (now t) (now p) × (a < 4096) ⌝ }
+    requires { ⌜ Room k (now t) (now p) × (a < SAFE) ⌝ }
     ensures { λ _. ⌜ Left k (leave (dropTimers a (k .timers) (dropMonitors a (k .monitors) (view k (now (t .entry)) (now (p .entry))))) a) (now (t .exit)) (now (p .entry)) ⌝ }
 {
     drop_monitors(t, p, k, a);
@@ -50,7 +51,7 @@ fn go(t: &mut [u64], p: &[u8], k: Caps, a: u64)
 // The running actor ends. 4: nobody runs; 1: no such reason.
 pub fn exit_in(t: &mut [u64], p: &mut [u8], k: Caps, reason: u64) -> Ended
     requires { ⌜ Ready k (now t) (now p) ⌝ }
-    ensures { λ r. ⌜ (r ≡ exitRule reason k (view k (now (t .entry)) (now (p .entry))) .ans) × Left k (exitRule reason k (view k (now (t .entry)) (now (p .entry))) .state) (now (t .exit)) (now (p .exit)) ⌝ }
+    ensures { λ r. ⌜ Gives (ruled (exitEntry reason)) k (now (t .entry)) (now (p .entry)) r (now (t .exit)) (now (p .exit)) ⌝ }
 {
     let runner = get(t, p, k, RUNNING, 0);
     if runner == 0 {
@@ -60,7 +61,7 @@ pub fn exit_in(t: &mut [u64], p: &mut [u8], k: Caps, reason: u64) -> Ended
             lost: 0,
         };
     }
-    if REASON_MOST < reason {
+    if LAST_REASON < reason {
         return Ended {
             no: 1,
             sent: 0,
@@ -68,7 +69,7 @@ pub fn exit_in(t: &mut [u64], p: &mut [u8], k: Caps, reason: u64) -> Ended
         };
     }
     let a = runner - 1;
-    let me = get(t, p, k, AGE, a) * 64 + a;
+    let me = get(t, p, k, AGE, a) * ACTOR_FACTOR + a;
     let n = farewell(t, p, k, a, me as u32, reason as u16);
     go(t, p, k, a);
     Ended {

@@ -3,11 +3,13 @@ ghost use mathlib.Core.Bool.{cond};
 ghost use Prim.Native.Nat.{suc, _<_};
 ghost use lib.Dec.{eqb};
 ghost use Rattle.tables.specs.Columns.{TIMER-OWNER, WATCHER};
+ghost use Rattle.tables.specs.Limits.{SAFE};
 ghost use Rattle.tables.specs.State.{at, view, Room, Left};
-ghost use Rattle.rules.specs.Calls.{disarm, unwatch, dropTimers, dropMonitors, leave};
+ghost use Rattle.rules.specs.Calls.{disarm, dropMonitors, dropTimers, leave, unwatch};
 use actions::monitors::unwatch;
 use actions::running::halt;
 use actions::timers::disarm;
+use rules::states::FREE;
 use tables::Caps;
 use tables::columns::PRIORITY;
 use tables::columns::STATE;
@@ -16,12 +18,9 @@ use tables::columns::WATCHER;
 use tables::words::get;
 use tables::words::put;
 
-// The word of a slot that is free.
-const FREE: u64 = 0;
-
 // Monitor i ends if slot a watches by it.
 fn drop_monitor(t: &mut [u64], p: &[u8], k: Caps, a: u64, i: u64)
-    requires { ⌜ Room k (now t) (now p) × (a < 4096) ⌝ }
+    requires { ⌜ Room k (now t) (now p) × (a < SAFE) ⌝ }
     ensures { λ _. ⌜ Left k (cond (eqb (at (view k (now (t .entry)) (now (p .entry))) WATCHER i) (suc a)) (unwatch (view k (now (t .entry)) (now (p .entry))) i) (view k (now (t .entry)) (now (p .entry)))) (now (t .exit)) (now (p .entry)) ⌝ }
 {
     if get(t, p, k, WATCHER, i) == a + 1 {
@@ -31,7 +30,7 @@ fn drop_monitor(t: &mut [u64], p: &[u8], k: Caps, a: u64, i: u64)
 
 // All monitors by which slot a watches end.
 pub fn drop_monitors(t: &mut [u64], p: &[u8], k: Caps, a: u64)
-    requires { ⌜ Room k (now t) (now p) × (a < 4096) ⌝ }
+    requires { ⌜ Room k (now t) (now p) × (a < SAFE) ⌝ }
     ensures { λ _. ⌜ Left k (dropMonitors a (k .monitors) (view k (now (t .entry)) (now (p .entry)))) (now (t .exit)) (now (p .entry)) ⌝ }
 {
     let n = k.monitors as u64;
@@ -44,7 +43,7 @@ pub fn drop_monitors(t: &mut [u64], p: &[u8], k: Caps, a: u64)
 
 // Timer i ends if it is slot a's.
 fn drop_timer(t: &mut [u64], p: &[u8], k: Caps, a: u64, i: u64)
-    requires { ⌜ Room k (now t) (now p) × (a < 4096) ⌝ }
+    requires { ⌜ Room k (now t) (now p) × (a < SAFE) ⌝ }
     ensures { λ _. ⌜ Left k (cond (eqb (at (view k (now (t .entry)) (now (p .entry))) TIMER-OWNER i) (suc a)) (disarm (view k (now (t .entry)) (now (p .entry))) i) (view k (now (t .entry)) (now (p .entry)))) (now (t .exit)) (now (p .entry)) ⌝ }
 {
     if get(t, p, k, TIMER_OWNER, i) == a + 1 {
@@ -54,7 +53,7 @@ fn drop_timer(t: &mut [u64], p: &[u8], k: Caps, a: u64, i: u64)
 
 // All timers of slot a end.
 pub fn drop_timers(t: &mut [u64], p: &[u8], k: Caps, a: u64)
-    requires { ⌜ Room k (now t) (now p) × (a < 4096) ⌝ }
+    requires { ⌜ Room k (now t) (now p) × (a < SAFE) ⌝ }
     ensures { λ _. ⌜ Left k (dropTimers a (k .timers) (view k (now (t .entry)) (now (p .entry)))) (now (t .exit)) (now (p .entry)) ⌝ }
 {
     let n = k.timers as u64;

@@ -5,9 +5,10 @@ ghost use Prim.Native.Nat.{suc, _<_};
 ghost use Rattle.records.specs.Header.{packed};
 ghost use Rattle.records.specs.Records.{exitBytes};
 ghost use Rattle.tables.specs.Columns.{WATCHED};
+ghost use Rattle.tables.specs.Limits.{MOST-ACTORS, SAFE};
 ghost use Rattle.tables.specs.State.{at, view, Room, Left};
 ghost use Rattle.rules.specs.Actions.{hasRoom, post};
-ghost use Rattle.rules.specs.Calls.{told, tell, cutLink, cutLinks, cutMonitor, cutMonitors};
+ghost use Rattle.rules.specs.Calls.{cutLink, cutLinks, cutMonitor, cutMonitors, tell, told};
 ghost use Rattle.endings.specs.Asked.{Short, Going};
 ghost use Rattle.endings.specs.Counted.{Few, Tells, toldOf};
 use actions::links::link_of;
@@ -21,6 +22,7 @@ use tables::Caps;
 use tables::columns::MONITOR_AGE;
 use tables::columns::WATCHED;
 use tables::columns::WATCHER;
+use tables::limits::MONITOR_FACTOR;
 use tables::words::get;
 
 // The class of an exit notice.
@@ -34,7 +36,7 @@ pub struct Count {
 
 // The notice of an exit goes to slot a.
 fn send_exit(t: &mut [u64], p: &mut [u8], k: Caps, a: u64, me: u32, reason: u16, monitor: u32)
-    requires { ⌜ Room k (now t) (now p) × (hasRoom k (view k (now t) (now p)) ≡ true) × Short (view k (now t) (now p)) × (a < 4096) ⌝ }
+    requires { ⌜ Room k (now t) (now p) × (hasRoom k (view k (now t) (now p)) ≡ true) × Short (view k (now t) (now p)) × (a < SAFE) ⌝ }
     ensures { λ _. ⌜ Left k (post k (view k (now (t .entry)) (now (p .entry))) a me (packed 4 1 0) (exitBytes me reason monitor)) (now (t .exit)) (now (p .exit)) ⌝ }
 {
     let mut bytes = [0u8; 14];
@@ -53,7 +55,7 @@ fn tell(
     reason: u16,
     monitor: u32,
 ) -> Count
-    requires { ⌜ Room k (now t) (now p) × Short (view k (now t) (now p)) × (a < 4096) × Few n 1000 ⌝ }
+    requires { ⌜ Room k (now t) (now p) × Short (view k (now t) (now p)) × (a < SAFE) × Few n SAFE ⌝ }
     ensures { λ r. ⌜ Tells k (tell k (toldOf n (view k (now (t .entry)) (now (p .entry)))) a me reason monitor) r (now (t .exit)) (now (p .exit)) ⌝ }
 {
     if has_room(t, p, k) {
@@ -81,7 +83,7 @@ fn cut_link(
     reason: u16,
     b: u64,
 ) -> Count
-    requires { ⌜ Room k (now t) (now p) × Going k a me (view k (now t) (now p)) × (b < k .actors) × Few n 1000 ⌝ }
+    requires { ⌜ Room k (now t) (now p) × Going k a me (view k (now t) (now p)) × (b < k .actors) × Few n SAFE ⌝ }
     ensures { λ r. ⌜ Tells k (cutLink k a me reason b (toldOf n (view k (now (t .entry)) (now (p .entry))))) r (now (t .exit)) (now (p .exit)) ⌝ }
 {
     let e = link_of(t, p, k, a + 1, b + 1);
@@ -95,7 +97,7 @@ fn cut_link(
 // All links of slot a end, by ascending partner slot.
 pub fn cut_links(t: &mut [u64], p: &mut [u8], k: Caps, a: u64, me: u32, reason: u16) -> Count
     requires { ⌜ Room k (now t) (now p) × Going k a me (view k (now t) (now p)) ⌝ }
-    ensures { λ r. ⌜ Tells k (cutLinks k a me reason (k .actors) (told 0 0 (view k (now (t .entry)) (now (p .entry))))) r (now (t .exit)) (now (p .exit)) × Few r 64 ⌝ }
+    ensures { λ r. ⌜ Tells k (cutLinks k a me reason (k .actors) (told 0 0 (view k (now (t .entry)) (now (p .entry))))) r (now (t .exit)) (now (p .exit)) × Few r MOST-ACTORS ⌝ }
 {
     let slots = k.actors as u64;
     let mut n = Count { sent: 0, lost: 0 };
@@ -119,13 +121,22 @@ fn cut_eye(
     reason: u16,
     i: u64,
 ) -> Count
-    requires { ⌜ Room k (now t) (now p) × Going k a me (view k (now t) (now p)) × (i < k .monitors) × (at (view k (now t) (now p)) WATCHED i ≡ suc a) × Few n 1000 ⌝ }
+    requires { ⌜ Room k (now t) (now p) × Going k a me (view k (now t) (now p)) × (i < k .monitors) × (at (view k (now t) (now p)) WATCHED i ≡ suc a) × Few n SAFE ⌝ }
     ensures { λ r. ⌜ Tells k (cutMonitor k a me reason i (toldOf n (view k (now (t .entry)) (now (p .entry))))) r (now (t .exit)) (now (p .exit)) ⌝ }
 {
     let watcher = get(t, p, k, WATCHER, i);
     let age = get(t, p, k, MONITOR_AGE, i);
     unwatch(t, p, k, i);
-    tell(t, p, k, n, watcher - 1, me, reason, (age * 128 + i) as u32)
+    tell(
+        t,
+        p,
+        k,
+        n,
+        watcher - 1,
+        me,
+        reason,
+        (age * MONITOR_FACTOR + i) as u32,
+    )
 }
 
 // The same, if monitor i is on slot a.
@@ -139,7 +150,7 @@ fn cut_monitor(
     reason: u16,
     i: u64,
 ) -> Count
-    requires { ⌜ Room k (now t) (now p) × Going k a me (view k (now t) (now p)) × (i < k .monitors) × Few n 1000 ⌝ }
+    requires { ⌜ Room k (now t) (now p) × Going k a me (view k (now t) (now p)) × (i < k .monitors) × Few n SAFE ⌝ }
     ensures { λ r. ⌜ Tells k (cutMonitor k a me reason i (toldOf n (view k (now (t .entry)) (now (p .entry))))) r (now (t .exit)) (now (p .exit)) ⌝ }
 {
     if get(t, p, k, WATCHED, i) == a + 1 {
@@ -158,7 +169,7 @@ pub fn cut_monitors(
     me: u32,
     reason: u16,
 ) -> Count
-    requires { ⌜ Room k (now t) (now p) × Going k a me (view k (now t) (now p)) × Few n 64 ⌝ }
+    requires { ⌜ Room k (now t) (now p) × Going k a me (view k (now t) (now p)) × Few n MOST-ACTORS ⌝ }
     ensures { λ r. ⌜ Tells k (cutMonitors k a me reason (k .monitors) (toldOf n (view k (now (t .entry)) (now (p .entry))))) r (now (t .exit)) (now (p .exit)) ⌝ }
 {
     let slots = k.monitors as u64;

@@ -6,7 +6,7 @@ use native.Mathlib.Numerals.{one-add}
 use native.Mathlib.Decide.{ℕ-discrete}
 use native.Mathlib.Omega.{arith}
 use lib.Pow.{shr-shr, shl-exact}
-use Rattle.pools.specs.Bits.{bit, cleared, marked}
+use Rattle.pools.specs.Bits.{WORD-BITS, bit, cleared, marked}
 
 -- bit 0 is the remainder by 2
 pub bit-zero : (x : ℕ) → bit x 0 ≡ x % 2
@@ -126,6 +126,6 @@ module _ (x k : ℕ) where
   pub marked-fits : (w : ℕ) → k < w → x < 2 ^ w → marked x k < 2 ^ w
   marked-fits w l h = bit-cases (λ e. rw (marked-one e) h) (λ e. rw (marked-zero e) (add-fits x k w l h e))
 
--- `1 << k` in a word of 64 bits
-pub one-shl : (k : ℕ) → k < 64 → (1 * 2 ^ k) % 2 ^ 64 ≡ 2 ^ k
-one-shl k h = shl-exact 1 k 64 (omega arith) (omega arith) ∙ one-mul (2 ^ k)
+-- `1 << k` in a word
+pub one-shl : (k : ℕ) → k < WORD-BITS → (1 * 2 ^ k) % 2 ^ WORD-BITS ≡ 2 ^ k
+one-shl k h = shl-exact 1 k WORD-BITS (omega arith) (omega arith) ∙ one-mul (2 ^ k)

@@ -6,7 +6,7 @@ use Prim.Native.Nat.{ℕ, _+_, _*_, _/_, _%_, _^_, _≤_, _<_}
 use native.Mathlib.Nat.{mul-pos, lt-of-lt-of-le, le-add-right, div-add-mod'}
 use native.Mathlib.Omega.{arith}
 use lib.Arith.{digits-lt, digits-div, digits-mod}
-use lib.Dec.{lit≤, eqb, ltb}
+use lib.Dec.{eqb, ltb}
 use lib.ListN.{length, getD, length-set}
 use lib.Seq.{getD-set-same, getD-set-other}
 use borrow.Author.Tests.{le-ltb, lt-ltb, ltb-true, eq-eqb, ne-eqb, eqb-true, eqb-false, not-true}
@@ -59,18 +59,6 @@ module _ (F : ℕ) where
   -- the id of a slot's next use is new
   pub id-new : (i age : ℕ) → i < F → Given F i age (idOf F (age + 1) i) → ⊥
   id-new i age l g = id-never i age i (age + 1) l l (omega arith) g
-
--- every actor's and timer's id fits 32 bits
-pub fits-64 : (33000000 + 1) * 64 ≤ 2 ^ 32
-fits-64 = lit≤ tt
-
--- every monitor's id fits 32 bits
-pub fits-128 : (33000000 + 1) * 128 ≤ 2 ^ 32
-fits-128 = lit≤ tt
-
--- the id of slot 0's last use
-pub last-64 : idOf 64 33000000 0 ≡ 2112000000
-last-64 = refl
 
 -- ---- slots that can be taken
 module _ (M : ℕ) (words ages : List ℕ) (i : ℕ) where

@@ -5,6 +5,10 @@ use mathlib.Core.List.{List}
 use lib.ListN.{getD, set}
 use lib.Dec.{eqb}
 
+-- the bits of a word
+abbrev pub WORD-BITS : ℕ
+WORD-BITS = 64
+
 -- bit k of x
 abbrev pub bit : ℕ → ℕ → ℕ
 bit x k = x / 2 ^ k % 2
@@ -18,11 +22,11 @@ marked x k = x + (1 - bit x k) * 2 ^ k
 
 -- whether entry i is free; one past the last word is not
 abbrev pub free : List ℕ → ℕ → Bool
-free w i = eqb (bit (getD w (i / 64) 0) (i % 64)) 1
+free w i = eqb (bit (getD w (i / WORD-BITS) 0) (i % WORD-BITS)) 1
 
 -- entry i taken, and released; past the last word nothing changes
 abbrev pub taken : List ℕ → ℕ → List ℕ
-taken w i = set w (i / 64) (cleared (getD w (i / 64) 0) (i % 64))
+taken w i = set w (i / WORD-BITS) (cleared (getD w (i / WORD-BITS) 0) (i % WORD-BITS))
 
 abbrev pub released : List ℕ → ℕ → List ℕ
-released w i = set w (i / 64) (marked (getD w (i / 64) 0) (i % 64))
+released w i = set w (i / WORD-BITS) (marked (getD w (i / WORD-BITS) 0) (i % WORD-BITS))

@@ -1,13 +1,15 @@
 // Free bits: bit i % 64 of word i / 64 is 1 where entry i is free.
 ghost use mathlib.Core.Path.{_≡_};
-ghost use Prim.Native.Nat.{_*_, _≤_, _<_, _^_};
-ghost use lib.ListN.{length};
+ghost use Prim.Native.Nat.{_*_, _<_, _^_};
 ghost use Rattle.pools.specs.Pool.{lowest, count};
-ghost use Rattle.pools.specs.Bits.{bit, free, taken, released};
+ghost use Rattle.pools.specs.Bits.{WORD-BITS, bit, free, taken, released};
+
+// The bits of a word.
+pub const WORD_BITS: usize = 64;
 
 // The number whose one bit is bit k.
 fn power(k: usize) -> u64
-    requires { ⌜ k < 64 ⌝ }
+    requires { ⌜ k < WORD-BITS ⌝ }
     ensures { λ r. ⌜ r ≡ 2 ^ k ⌝ }
 {
     1 << k
@@ -15,7 +17,7 @@ fn power(k: usize) -> u64
 
 // Bit k of x.
 fn bit_of(x: u64, k: usize) -> u64
-    requires { ⌜ k < 64 ⌝ }
+    requires { ⌜ k < WORD-BITS ⌝ }
     ensures { λ r. ⌜ r ≡ bit x k ⌝ }
 {
     (x >> k) % 2
@@ -25,8 +27,8 @@ fn bit_of(x: u64, k: usize) -> u64
 pub fn is_free(w: &[u64], i: usize) -> bool
     ensures { λ r. ⌜ r ≡ free (now (w .entry)) i ⌝ }
 {
-    if i / 64 < w.len() {
-        return bit_of(w[i / 64], i % 64) == 1;
+    if i / WORD_BITS < w.len() {
+        return bit_of(w[i / WORD_BITS], i % WORD_BITS) == 1;
     }
     false
 }
@@ -35,9 +37,9 @@ pub fn is_free(w: &[u64], i: usize) -> bool
 pub fn take(w: &mut [u64], i: usize)
     ensures { λ _. ⌜ now (w .exit) ≡ taken (now (w .entry)) i ⌝ }
 {
-    if i / 64 < w.len() {
-        let x = w[i / 64];
-        w[i / 64] = x - bit_of(x, i % 64) * power(i % 64);
+    if i / WORD_BITS < w.len() {
+        let x = w[i / WORD_BITS];
+        w[i / WORD_BITS] = x - bit_of(x, i % WORD_BITS) * power(i % WORD_BITS);
     }
 }
 
@@ -45,9 +47,9 @@ pub fn take(w: &mut [u64], i: usize)
 pub fn release(w: &mut [u64], i: usize)
     ensures { λ _. ⌜ now (w .exit) ≡ released (now (w .entry)) i ⌝ }
 {
-    if i / 64 < w.len() {
-        let x = w[i / 64];
-        w[i / 64] = x + (1 - bit_of(x, i % 64)) * power(i % 64);
+    if i / WORD_BITS < w.len() {
+        let x = w[i / WORD_BITS];
+        w[i / WORD_BITS] = x + (1 - bit_of(x, i % WORD_BITS)) * power(i % WORD_BITS);
     }
 }
 

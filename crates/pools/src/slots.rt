@@ -3,7 +3,7 @@ ghost use mathlib.Core.Path.{_≡_};
 ghost use Prim.Native.Nat.{_+_, _*_, _≤_, _<_, _^_};
 ghost use lib.ListN.{length, getD};
 ghost use Rattle.pools.specs.Pool.{lowest, count};
-ghost use Rattle.pools.specs.Slot.{idOf, slotOf, ageOf, unused, usable, aged, isLive};
+ghost use Rattle.pools.specs.Slot.{idOf, unused, usable, aged, isLive};
 
 // Word i; 0 past the end.
 fn word(c: &[u64], i: usize) -> u64

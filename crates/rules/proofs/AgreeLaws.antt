@@ -1,9 +1,10 @@
 -- ONE LAW for each part of the reckoning: an action on its columns leaves the other parts as they were. Assumes nothing.
 use Prim.Native.Nat.{ℕ}
 use mathlib.Core.Path.{_≡_, ap, subst}
-use mathlib.Core.Bool.{true, false}
-use mathlib.Core.List.{List, [], _∷_, _++_}
+use mathlib.Core.Bool.{Bool, true, false, _&&_}
+use mathlib.Core.List.{List, [], _∷_}
 use Rattle.ledger.specs.Ledger.{Ledger, Link, Mail, Monitor, People, Time, ties, withMail, withPeople, withTies, withTime}
+use Rattle.pools.proofs.BoolLaws.{and-left, and-right}
 use Rattle.pools.proofs.ExactLaws.{exact-same}
 use Rattle.tables.specs.declared.Caps.{Caps}
 use Rattle.tables.specs.Columns.{AGE, ARRIVAL, ARRIVED, CLOCK, DATA-FREE, DUE, HAND, INTERVAL, LENGTH, LINK-ONE, LINK-TWO, MAIL-DATA, MAIL-FREE, MAIL-OWNER, MONITOR-AGE, PAYLOAD, PRIORITY, RUNNING, SENDER, STATE, TIMER-AGE, TIMER-OWNER, WATCHED, WATCHER}
@@ -11,7 +12,7 @@ use Rattle.tables.specs.State.{State}
 use Rattle.rules.specs.Terms.{alive}
 use Rattle.rules.specs.Agrees.{Agrees, LinksAgree, MailAgree, MonitorsAgree, PeopleAgree, TimeAgree, isWorn}
 use Rattle.rules.proofs.ColumnLaws.{worn-alive}
-use Rattle.rules.proofs.Frame.{Wrote, apart, apart-left, apart-right, mem, mixed, mixed-is}
+use Rattle.rules.proofs.Frame.{Wrote, apart, mem, mixed, mixed-is}
 
 -- ---- what each part reads; the people read the states too, for who is alive alone
 abbrev pub OF-PEOPLE : List ℕ
@@ -28,6 +29,31 @@ OF-LINKS = LINK-ONE ∷ LINK-TWO ∷ AGE ∷ []
 
 abbrev pub OF-MONITORS : List ℕ
 OF-MONITORS = WATCHER ∷ WATCHED ∷ MONITOR-AGE ∷ AGE ∷ []
+
+-- ---- the parts that are passed on
+-- every part
+abbrev pub ALL : List (List ℕ)
+ALL = OF-PEOPLE ∷ OF-MAIL ∷ OF-TIME ∷ OF-LINKS ∷ OF-MONITORS ∷ []
+
+-- all but the people
+abbrev pub BUT-PEOPLE : List (List ℕ)
+BUT-PEOPLE = OF-MAIL ∷ OF-TIME ∷ OF-LINKS ∷ OF-MONITORS ∷ []
+
+-- all but the messages
+abbrev pub BUT-MAIL : List (List ℕ)
+BUT-MAIL = OF-PEOPLE ∷ OF-TIME ∷ OF-LINKS ∷ OF-MONITORS ∷ []
+
+-- all but the clock and the timers
+abbrev pub BUT-TIME : List (List ℕ)
+BUT-TIME = OF-PEOPLE ∷ OF-MAIL ∷ OF-LINKS ∷ OF-MONITORS ∷ []
+
+-- all but the links
+abbrev pub BUT-LINKS : List (List ℕ)
+BUT-LINKS = OF-PEOPLE ∷ OF-MAIL ∷ OF-TIME ∷ OF-MONITORS ∷ []
+
+-- all but the monitors
+abbrev pub BUT-MONITORS : List (List ℕ)
+BUT-MONITORS = OF-PEOPLE ∷ OF-MAIL ∷ OF-TIME ∷ OF-LINKS ∷ []
 
 -- ---- a part over the columns of s that it reads, and those of t else
 module _ (s t : State) where
@@ -57,6 +83,20 @@ module _ (s t : State) where
   unfolding mixed
   monitors-on ms worn r = record { eyes = r .eyes; allEyes = r .allEyes; monitors = r .monitors; wornEyes = r .wornEyes }
 
+-- ---- parts that read none of the columns ws
+abbrev pub clear : List (List ℕ) → List ℕ → Bool
+clear [] ws = true
+clear (rs ∷ rss) ws = apart rs ws && clear rss ws
+
+-- one by one
+abbrev Cleared : List (List ℕ) → List ℕ → Type 0
+Cleared [] ws = Unit
+Cleared (rs ∷ rss) ws = (apart rs ws ≡ true) × Cleared rss ws
+
+cleared : (rss : List (List ℕ)) (ws : List ℕ) → clear rss ws ≡ true → Cleared rss ws
+cleared [] ws e = tt
+cleared (rs ∷ rss) ws e = (and-left (apart rs ws) (clear rss ws) e, cleared rss ws (and-right (apart rs ws) (clear rss ws) e))
+
 module _ {ws : List ℕ} {s t : State} (w : Wrote ws s t) where
   -- who is alive is as it was where the states are not written
   pub living : mem STATE ws ≡ false → alive (t STATE) ≡ alive (s STATE)
@@ -81,92 +121,79 @@ module _ {ws : List ℕ} {s t : State} (w : Wrote ws s t) where
   -- ---- THE LAWS: the part that changed is given, the others are passed on where what they read is not written
   module _ {k : Caps} {l : Ledger} (r : Agrees k l s) where
     -- nothing that the reckoning knows
-    pub agrees-still : alive (t STATE) ≡ alive (s STATE) → apart (OF-PEOPLE ++ (OF-MAIL ++ (OF-TIME ++ (OF-LINKS ++ OF-MONITORS)))) ws ≡ true → Agrees k l t
+    pub agrees-still : alive (t STATE) ≡ alive (s STATE) → clear ALL ws ≡ true → Agrees k l t
     agrees-still v e =
-        let e₁ = apart-right OF-PEOPLE (OF-MAIL ++ (OF-TIME ++ (OF-LINKS ++ OF-MONITORS))) ws e in
-        let e₂ = apart-right OF-MAIL (OF-TIME ++ (OF-LINKS ++ OF-MONITORS)) ws e₁ in
-        let e₃ = apart-right OF-TIME (OF-LINKS ++ OF-MONITORS) ws e₂ in
-        let e₄ = apart-right OF-LINKS OF-MONITORS ws e₃ in
+        let c = cleared ALL ws e in
         record {
           sizes = r .sizes;
-          people = people-same v (apart-left OF-PEOPLE (OF-MAIL ++ (OF-TIME ++ (OF-LINKS ++ OF-MONITORS))) ws e) (r .people);
-          mail = mail-same (apart-left OF-MAIL (OF-TIME ++ (OF-LINKS ++ OF-MONITORS)) ws e₁) (r .mail);
-          time = time-same (apart-left OF-TIME (OF-LINKS ++ OF-MONITORS) ws e₂) (r .time);
-          links = links-same (apart-left OF-LINKS OF-MONITORS ws e₃) (r .links);
-          monitors = monitors-same e₄ (r .monitors);
+          people = people-same v (c .0) (r .people);
+          mail = mail-same (c .1 .0) (r .mail);
+          time = time-same (c .1 .1 .0) (r .time);
+          links = links-same (c .1 .1 .1 .0) (r .links);
+          monitors = monitors-same (c .1 .1 .1 .1 .0) (r .monitors);
         }
 
     -- the people
-    pub agrees-people : (p : People) → apart (OF-MAIL ++ (OF-TIME ++ (OF-LINKS ++ OF-MONITORS))) ws ≡ true → PeopleAgree p t → Agrees k (withPeople l p) t
+    pub agrees-people : (p : People) → clear BUT-PEOPLE ws ≡ true → PeopleAgree p t → Agrees k (withPeople l p) t
     agrees-people p e x =
-        let e₁ = apart-right OF-MAIL (OF-TIME ++ (OF-LINKS ++ OF-MONITORS)) ws e in
-        let e₂ = apart-right OF-TIME (OF-LINKS ++ OF-MONITORS) ws e₁ in
-        let e₃ = apart-right OF-LINKS OF-MONITORS ws e₂ in
+        let c = cleared BUT-PEOPLE ws e in
         record {
           sizes = r .sizes;
           people = x;
-          mail = mail-same (apart-left OF-MAIL (OF-TIME ++ (OF-LINKS ++ OF-MONITORS)) ws e) (r .mail);
-          time = time-same (apart-left OF-TIME (OF-LINKS ++ OF-MONITORS) ws e₁) (r .time);
-          links = links-same (apart-left OF-LINKS OF-MONITORS ws e₂) (r .links);
-          monitors = monitors-same e₃ (r .monitors);
+          mail = mail-same (c .0) (r .mail);
+          time = time-same (c .1 .0) (r .time);
+          links = links-same (c .1 .1 .0) (r .links);
+          monitors = monitors-same (c .1 .1 .1 .0) (r .monitors);
         }
 
     -- the messages
-    pub agrees-messages : (m : Mail) → alive (t STATE) ≡ alive (s STATE) → apart (OF-PEOPLE ++ (OF-TIME ++ (OF-LINKS ++ OF-MONITORS))) ws ≡ true → MailAgree k m t → Agrees k (withMail l m) t
+    pub agrees-messages : (m : Mail) → alive (t STATE) ≡ alive (s STATE) → clear BUT-MAIL ws ≡ true → MailAgree k m t → Agrees k (withMail l m) t
     agrees-messages m v e x =
-        let e₁ = apart-right OF-PEOPLE (OF-TIME ++ (OF-LINKS ++ OF-MONITORS)) ws e in
-        let e₂ = apart-right OF-TIME (OF-LINKS ++ OF-MONITORS) ws e₁ in
-        let e₃ = apart-right OF-LINKS OF-MONITORS ws e₂ in
+        let c = cleared BUT-MAIL ws e in
         record {
           sizes = r .sizes;
-          people = people-same v (apart-left OF-PEOPLE (OF-TIME ++ (OF-LINKS ++ OF-MONITORS)) ws e) (r .people);
+          people = people-same v (c .0) (r .people);
           mail = x;
-          time = time-same (apart-left OF-TIME (OF-LINKS ++ OF-MONITORS) ws e₁) (r .time);
-          links = links-same (apart-left OF-LINKS OF-MONITORS ws e₂) (r .links);
-          monitors = monitors-same e₃ (r .monitors);
+          time = time-same (c .1 .0) (r .time);
+          links = links-same (c .1 .1 .0) (r .links);
+          monitors = monitors-same (c .1 .1 .1 .0) (r .monitors);
         }
 
     -- the clock and the timers
-    pub agrees-time : (u : Time) → alive (t STATE) ≡ alive (s STATE) → apart (OF-PEOPLE ++ (OF-MAIL ++ (OF-LINKS ++ OF-MONITORS))) ws ≡ true → TimeAgree u t → Agrees k (withTime l u) t
+    pub agrees-time : (u : Time) → alive (t STATE) ≡ alive (s STATE) → clear BUT-TIME ws ≡ true → TimeAgree u t → Agrees k (withTime l u) t
     agrees-time u v e x =
-        let e₁ = apart-right OF-PEOPLE (OF-MAIL ++ (OF-LINKS ++ OF-MONITORS)) ws e in
-        let e₂ = apart-right OF-MAIL (OF-LINKS ++ OF-MONITORS) ws e₁ in
-        let e₃ = apart-right OF-LINKS OF-MONITORS ws e₂ in
+        let c = cleared BUT-TIME ws e in
         record {
           sizes = r .sizes;
-          people = people-same v (apart-left OF-PEOPLE (OF-MAIL ++ (OF-LINKS ++ OF-MONITORS)) ws e) (r .people);
-          mail = mail-same (apart-left OF-MAIL (OF-LINKS ++ OF-MONITORS) ws e₁) (r .mail);
+          people = people-same v (c .0) (r .people);
+          mail = mail-same (c .1 .0) (r .mail);
           time = x;
-          links = links-same (apart-left OF-LINKS OF-MONITORS ws e₂) (r .links);
-          monitors = monitors-same e₃ (r .monitors);
+          links = links-same (c .1 .1 .0) (r .links);
+          monitors = monitors-same (c .1 .1 .1 .0) (r .monitors);
         }
 
     -- the links
-    pub agrees-links : (ls : List Link) → alive (t STATE) ≡ alive (s STATE) → apart (OF-PEOPLE ++ (OF-MAIL ++ (OF-TIME ++ OF-MONITORS))) ws ≡ true → LinksAgree ls t → Agrees k (withTies l (ties ls (l .ties .monitors) (l .ties .worn))) t
+    pub agrees-links : (ls : List Link) → alive (t STATE) ≡ alive (s STATE) → clear BUT-LINKS ws ≡ true → LinksAgree ls t → Agrees k (withTies l (ties ls (l .ties .monitors) (l .ties .worn))) t
     agrees-links ls v e x =
-        let e₁ = apart-right OF-PEOPLE (OF-MAIL ++ (OF-TIME ++ OF-MONITORS)) ws e in
-        let e₂ = apart-right OF-MAIL (OF-TIME ++ OF-MONITORS) ws e₁ in
-        let e₃ = apart-right OF-TIME OF-MONITORS ws e₂ in
+        let c = cleared BUT-LINKS ws e in
         record {
           sizes = r .sizes;
-          people = people-same v (apart-left OF-PEOPLE (OF-MAIL ++ (OF-TIME ++ OF-MONITORS)) ws e) (r .people);
-          mail = mail-same (apart-left OF-MAIL (OF-TIME ++ OF-MONITORS) ws e₁) (r .mail);
-          time = time-same (apart-left OF-TIME OF-MONITORS ws e₂) (r .time);
+          people = people-same v (c .0) (r .people);
+          mail = mail-same (c .1 .0) (r .mail);
+          time = time-same (c .1 .1 .0) (r .time);
           links = x;
-          monitors = monitors-same e₃ (r .monitors);
+          monitors = monitors-same (c .1 .1 .1 .0) (r .monitors);
         }
 
     -- the monitors
-    pub agrees-monitors : (ms : List Monitor) (worn : List ℕ) → alive (t STATE) ≡ alive (s STATE) → apart (OF-PEOPLE ++ (OF-MAIL ++ (OF-TIME ++ OF-LINKS))) ws ≡ true → MonitorsAgree ms worn t → Agrees k (withTies l (ties (l .ties .links) ms worn)) t
+    pub agrees-monitors : (ms : List Monitor) (worn : List ℕ) → alive (t STATE) ≡ alive (s STATE) → clear BUT-MONITORS ws ≡ true → MonitorsAgree ms worn t → Agrees k (withTies l (ties (l .ties .links) ms worn)) t
     agrees-monitors ms worn v e x =
-        let e₁ = apart-right OF-PEOPLE (OF-MAIL ++ (OF-TIME ++ OF-LINKS)) ws e in
-        let e₂ = apart-right OF-MAIL (OF-TIME ++ OF-LINKS) ws e₁ in
-        let e₃ = apart-right OF-TIME OF-LINKS ws e₂ in
+        let c = cleared BUT-MONITORS ws e in
         record {
           sizes = r .sizes;
-          people = people-same v (apart-left OF-PEOPLE (OF-MAIL ++ (OF-TIME ++ OF-LINKS)) ws e) (r .people);
-          mail = mail-same (apart-left OF-MAIL (OF-TIME ++ OF-LINKS) ws e₁) (r .mail);
-          time = time-same (apart-left OF-TIME OF-LINKS ws e₂) (r .time);
-          links = links-same e₃ (r .links);
+          people = people-same v (c .0) (r .people);
+          mail = mail-same (c .1 .0) (r .mail);
+          time = time-same (c .1 .1 .0) (r .time);
+          links = links-same (c .1 .1 .1 .0) (r .links);
           monitors = x;
         }

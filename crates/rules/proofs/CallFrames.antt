@@ -9,6 +9,7 @@ use Rattle.pools.specs.Slot.{slotOf}
 use Rattle.pools.proofs.BoolLaws.{split}
 use Rattle.tables.specs.declared.Caps.{Caps}
 use Rattle.tables.specs.Columns.{ARRIVED, CLOCK, DEADLINE, DUE, HAND, PRIORITY, QUEUE, QUEUED, REASON, RUNNING, STATE, TIMER-OWNER, WATCHED, WATCHER}
+use Rattle.tables.specs.Limits.{ACTOR-FACTOR, LEVELS}
 use Rattle.tables.specs.State.{State, at, head}
 use Rattle.rules.specs.Terms.{runner}
 use Rattle.rules.specs.Actions.{earliest, hasRoom, letGo}
@@ -114,7 +115,7 @@ beside-yield k s = beside-of (wrote-ready (wrote-poke (wrote-none s) RUNNING 0 0
 
 -- next
 pub beside-next : (k : Caps) (s : State) → Beside (RUNNING ∷ REASON ∷ STATE ∷ QUEUED ∷ QUEUE ∷ []) s (nextEntry .work k s .state)
-beside-next k s = split (ltb (firstHead s 4) (head s QUEUED)) (λ p. rw p (beside-run s _ _)) (λ p. rw p (beside-still _ s))
+beside-next k s = split (ltb (firstHead s LEVELS) (head s QUEUED)) (λ p. rw p (beside-run s _ _)) (λ p. rw p (beside-still _ s))
 
 -- notify
 pub beside-notify : (to tag : ℕ) (payload : List ℕ) (k : Caps) (s : State) → Beside POSTED s (notifyEntry to tag payload .work k s .state)
@@ -150,7 +151,7 @@ beside-cancel id k s = beside-within TIMED (beside-of (wrote-disarm (wrote-none 
 -- link
 pub beside-link : (id : ℕ) (k : Caps) (s : State) → Beside LINKED s (linkEntry id .work k s .state)
 beside-link id k s =
-    split (ltb (linkOf k s (runner s) (suc (slotOf 64 id))) (k .links)) (λ d. rw d (beside-still LINKED s)) (λ d. rw d (beside-of (wrote-tie (wrote-none s) _ _ _)))
+    split (ltb (linkOf k s (runner s) (suc (slotOf ACTOR-FACTOR id))) (k .links)) (λ d. rw d (beside-still LINKED s)) (λ d. rw d (beside-of (wrote-tie (wrote-none s) _ _ _)))
 
 -- unlink
 pub beside-unlink : (id : ℕ) (k : Caps) (s : State) → Beside LINKED s (unlinkEntry id .work k s .state)

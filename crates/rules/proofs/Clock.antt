@@ -1,6 +1,6 @@
 -- The clock is raised: nothing but a deadline notices, and the actions that follow do not. A state that is sound at an earlier clock is `Late`;
 -- once nobody's deadline is past, it is sound. Assumes nothing.
-use Prim.Native.Nat.{ℕ, zero, suc, _+_, _-_, _^_, _≤_, _<_}
+use Prim.Native.Nat.{ℕ, zero, suc, _+_, _-_, _≤_, _<_}
 use native.Mathlib.Omega.{arith}
 use mathlib.Core.Path.{_≡_, refl, sym, ap, subst, _∙_, fun-ext}
 use mathlib.Core.Bool.{Bool, true, false, not}
@@ -16,11 +16,12 @@ use Rattle.pools.proofs.BoolLaws.{split, and-left}
 use Rattle.pools.proofs.PoolLaws.{count-change, count-le, count-some}
 use Rattle.tables.specs.declared.Caps.{Caps}
 use Rattle.tables.specs.Columns.{CLOCK, DATA-FREE, DEADLINE, DUE, INTERVAL, MAIL-FREE, PAYLOAD, STATE, TIMER-OWNER, WANT-CLASS, WANT-SENDER, WANT-TAG}
+use Rattle.tables.specs.Limits.{CLOCK-END, LONGEST}
 use Rattle.tables.specs.State.{State, at, head, with-col, poke}
 use Rattle.tables.specs.Action.{push, takeBit, write}
 use Rattle.tables.proofs.ViewLaws.{Sized}
 use Rattle.tables.proofs.ActionLaws.{with-other}
-use Rattle.rules.specs.Terms.{CLOCK-END, WAITS}
+use Rattle.rules.specs.Terms.{WAITS}
 use Rattle.rules.specs.Sound.{pairRule}
 use Rattle.rules.specs.Actions.{dataFor, due, earliest, enlist, fill, hears, mailFor, post, ready, stir, unwait, wake}
 use Rattle.rules.specs.Agrees.{Agrees}
@@ -29,7 +30,7 @@ use Rattle.rules.proofs.AgreeLaws.{agrees-time}
 use Rattle.rules.proofs.Frame.{Wrote, wrote-none, wrote-poke, wrote-sized}
 use Rattle.rules.proofs.Frames.{wrote-disarm, wrote-post, wrote-ready, wrote-rearm, wrote-unwait}
 use Rattle.rules.proofs.Good.{Good}
-use Rattle.rules.proofs.Part
+use Rattle.rules.proofs.Groups as Part
 use Rattle.rules.proofs.Patch.{_by_also_, done, patch}
 use Rattle.rules.proofs.LeastLaws.{Least, least-is}
 use Rattle.rules.proofs.Rearm.{redue-keeps}
@@ -168,7 +169,7 @@ module _ (k : Caps) (c : ℕ) (s : State) (h : Late k c s) where
   rearm-late i l u =
       let g = h .good in
       let o : at (atClock s c) TIMER-OWNER i ≡ 0 → ⊥ = rw (clock-read s c TIMER-OWNER refl) u in
-      let w : at s INTERVAL i ≤ 2 ^ 32 - 1 = rw (clock-read s c INTERVAL refl) at (g .timers i l .1 .1 o .1 .1) in
+      let w : at s INTERVAL i ≤ LONGEST = rw (clock-read s c INTERVAL refl) at (g .timers i l .1 .1 o .1 .1) in
       split (eqb (at s INTERVAL i) 0)
       (λ q. rw q (late-then (disarm s i) (rw (clock-disarm s c i) at (disarm-keeps k (atClock s c) i g l)) (wrote-disarm (wrote-none s) i .cols CLOCK refl)))
       (λ q. rw q (late-then (poke s DUE i (head s CLOCK + at s INTERVAL i))

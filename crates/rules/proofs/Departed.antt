@@ -20,11 +20,12 @@ use Rattle.pools.specs.Bits.{free}
 use Rattle.pools.proofs.BoolLaws.{split, true-false}
 use Rattle.tables.specs.declared.Caps.{Caps}
 use Rattle.tables.specs.Columns.{DATA-FREE, HAND, MAIL-DATA, MAIL-FREE, STATE, WATCHED, WATCHER}
+use Rattle.tables.specs.Limits.{ACTOR-FACTOR, LAST-REASON, MONITOR-FACTOR}
 use Rattle.tables.specs.State.{State, at}
 use Rattle.rules.specs.Terms.{actorId, alive, runner, runnerId}
 use Rattle.rules.specs.Agrees.{Agrees, arrivals, boxAt, handAt, monitorAt}
 use Rattle.rules.specs.Actions.{hasRoom}
-use Rattle.rules.specs.Calls.{Told, exitRule, farewell, ruled}
+use Rattle.rules.specs.Calls.{Told, exitEntry, farewell, ruled}
 use Rattle.rules.specs.Run.{sayEnded}
 use Rattle.rules.proofs.Good.{Good}
 use Rattle.rules.proofs.LedgerLaws.{bits-left, datas-left, mails-left, room-same, running-is, runner-alive, some-map, some-no}
@@ -93,15 +94,15 @@ pub record Nothing (id : ℕ) (l : Ledger) : Type 0 where
 notices-else : (me reason : ℕ) (l : Ledger) → linked l me me ≡ false → some (λ m. eqb (m .target) me && eqb (m .watcher) me) (l .ties .monitors) ≡ false → some (λ m. eqb (m .to) me) (notices l me reason) ≡ false
 unfolding notices
 notices-else me reason l h w =
-    some-both (λ m. eqb (m .to) me) (map (λ a. notice me reason 0 (a .id)) (bySlot (λ a. a .id % 64) 64 (those (λ a. linked l me (a .id)) (l .people .live))))
-    (map (λ m. notice me reason (m .id) (m .watcher)) (bySlot (λ m. m .id % 128) 128 (those (λ m. eqb (m .target) me) (l .ties .monitors))))
+    some-both (λ m. eqb (m .to) me) (map (λ a. notice me reason 0 (a .id)) (bySlot (λ a. a .id % ACTOR-FACTOR) ACTOR-FACTOR (those (λ a. linked l me (a .id)) (l .people .live))))
+    (map (λ m. notice me reason (m .id) (m .watcher)) (bySlot (λ m. m .id % MONITOR-FACTOR) MONITOR-FACTOR (those (λ m. eqb (m .target) me) (l .ties .monitors))))
     ∙ ap₂ (λ (x y : Bool). x || y)
-    (some-map (λ m. eqb (m .to) me) (λ a. notice me reason 0 (a .id)) (bySlot (λ a. a .id % 64) 64 (those (λ a. linked l me (a .id)) (l .people .live)))
-    ∙ none-slot (λ a. eqb (a .id) me) (λ a. a .id % 64) 64 (those (λ a. linked l me (a .id)) (l .people .live))
+    (some-map (λ m. eqb (m .to) me) (λ a. notice me reason 0 (a .id)) (bySlot (λ a. a .id % ACTOR-FACTOR) ACTOR-FACTOR (those (λ a. linked l me (a .id)) (l .people .live)))
+    ∙ none-slot (λ a. eqb (a .id) me) (λ a. a .id % ACTOR-FACTOR) ACTOR-FACTOR (those (λ a. linked l me (a .id)) (l .people .live))
     (some-those (λ a. eqb (a .id) me) (λ a. linked l me (a .id)) (l .people .live)
     ∙ none-all (λ a. linked l me (a .id) && eqb (a .id) me) (l .people .live) (λ a. split (eqb (a .id) me) (λ q. rw (q, eqb-true (a .id) me q, h)) (λ q. rw q (and-false (linked l me (a .id)))))))
-    (some-map (λ m. eqb (m .to) me) (λ m. notice me reason (m .id) (m .watcher)) (bySlot (λ m. m .id % 128) 128 (those (λ m. eqb (m .target) me) (l .ties .monitors)))
-    ∙ none-slot (λ m. eqb (m .watcher) me) (λ m. m .id % 128) 128 (those (λ m. eqb (m .target) me) (l .ties .monitors))
+    (some-map (λ m. eqb (m .to) me) (λ m. notice me reason (m .id) (m .watcher)) (bySlot (λ m. m .id % MONITOR-FACTOR) MONITOR-FACTOR (those (λ m. eqb (m .target) me) (l .ties .monitors)))
+    ∙ none-slot (λ m. eqb (m .watcher) me) (λ m. m .id % MONITOR-FACTOR) MONITOR-FACTOR (those (λ m. eqb (m .target) me) (l .ties .monitors))
     (some-those (λ m. eqb (m .watcher) me) (λ m. eqb (m .target) me) (l .ties .monitors) ∙ w))
 
 -- THE LAW of the reckoning's exit: nothing of the ended actor is left
@@ -139,14 +140,14 @@ module _ (k : Caps) (s : State) (l : Ledger) (g : Good k s) (r : Agrees k l s) (
       (λ p. rw p))))
 
 -- THE THEOREM: after an exit the reckoning has nothing of the actor that ended
-pub exit-nothing : (reason : ℕ) (k : Caps) (s : State) (l : Ledger) → Good k s → Agrees k l s → eqb (runner s) 0 ≡ false → reason ≤ 65535 →
-    Nothing (l .people .running) (entered (record { call = op (exit reason); answer = sayEnded (exitRule reason k s .ans) }) l)
+pub exit-nothing : (reason : ℕ) (k : Caps) (s : State) (l : Ledger) → Good k s → Agrees k l s → eqb (runner s) 0 ≡ false → reason ≤ LAST-REASON →
+    Nothing (l .people .running) (entered (record { call = op (exit reason); answer = sayEnded (ruled (exitEntry reason) k s .ans) }) l)
 unfolding ruled entered
 exit-nothing reason k s l g r q h =
     let there = runner-alive k s g q in
     let e = running-is k s g l r q in
     let a = runner s - 1 in
-    rw (q, le-ltb 65535 reason h)
+    rw (q, le-ltb LAST-REASON reason h)
     (departed-nothing (l .people .running) reason _ l
     (subst (λ (i : ℕ). linked l i i ≡ false) (sym e) (unlinked-self k s l g r a there))
     (subst (λ (i : ℕ). some (λ m. eqb (m .target) i && eqb (m .watcher) i) (l .ties .monitors) ≡ false) (sym e) (unwatched-self k s l g r a there)))
@@ -191,12 +192,12 @@ most k l ns p q t g r =
     ]
 
 -- "A notice for which either message pool is empty is lost", and no other: once the actor's hand and mailbox are freed
-pub exit-sent : (reason : ℕ) (k : Caps) (s : State) (l : Ledger) → Good k s → Agrees k l s → eqb (runner s) 0 ≡ false → reason ≤ 65535 →
-    exitRule reason k s .ans .sent ≡ min (length (notices l (l .people .running) reason)) (min (mailsLeft (cleared (l .people .running) l)) (datasLeft (cleared (l .people .running) l)))
+pub exit-sent : (reason : ℕ) (k : Caps) (s : State) (l : Ledger) → Good k s → Agrees k l s → eqb (runner s) 0 ≡ false → reason ≤ LAST-REASON →
+    ruled (exitEntry reason) k s .ans .sent ≡ min (length (notices l (l .people .running) reason)) (min (mailsLeft (cleared (l .people .running) l)) (datasLeft (cleared (l .people .running) l)))
 unfolding ruled
 exit-sent reason k s l g r q h =
     let a = runner s - 1 in
     let run : runner s ≡ suc a = omega (arith, eqb-false (runner s) 0 q) in
     let z = farewell-along k s l g r a reason run in
     let e = most k (cleared (runnerId s) l) (notices l (runnerId s) reason) _ _ (farewell k a (runnerId s) reason s) (monitors-cut k s g a reason run .going .good) z in
-    rw (q, le-ltb 65535 reason h) (e ∙ ap (λ (i : ℕ). min (length (notices l i reason)) (min (mailsLeft (cleared i l)) (datasLeft (cleared i l)))) (sym (running-is k s g l r q)))
+    rw (q, le-ltb LAST-REASON reason h) (e ∙ ap (λ (i : ℕ). min (length (notices l i reason)) (min (mailsLeft (cleared i l)) (datasLeft (cleared i l)))) (sym (running-is k s g l r q)))

@@ -15,6 +15,7 @@ use Rattle.pools.proofs.SlotLaws.{slot-of-id}
 use Rattle.ledger.specs.Call.Op.{exit}
 use Rattle.tables.specs.declared.Caps.{Caps}
 use Rattle.tables.specs.Columns.{AGE, ARRIVED, HAND, LINK-ONE, LINK-TWO, MAIL-OWNER, PAYLOAD, PRIORITY, RUNNING, STATE, TIMER-OWNER, WATCHED, WATCHER}
+use Rattle.tables.specs.Limits.{ACTOR-FACTOR, LAST-REASON}
 use Rattle.tables.specs.State.{State, at, head, poke, with-col}
 use Rattle.tables.specs.Action.{freeBit}
 use Rattle.tables.proofs.ViewLaws.{Sized}
@@ -22,12 +23,12 @@ use Rattle.rules.specs.Rule.{Holds}
 use Rattle.rules.specs.Terms.{FREE, RUNS, WAITS, actorId, alive, isActor, joins, runner, runnerId}
 use Rattle.rules.specs.Sound.{actorRule, endsRule, idleRule, onceRule, pairRule}
 use Rattle.rules.specs.Actions.{letGo}
-use Rattle.rules.specs.Calls.{cutLinks, dropAll, dropMonitors, dropTimers, exitRule, farewell, leave, ruled, told}
+use Rattle.rules.specs.Calls.{cutLinks, dropAll, dropMonitors, dropTimers, exitEntry, farewell, leave, ruled, told}
 use Rattle.rules.proofs.Claims.{Keeps}
 use Rattle.rules.proofs.Frame.{wrote-none}
 use Rattle.rules.proofs.Frames.{beside-dropAll, wrote-leave, wrote-letGo}
 use Rattle.rules.proofs.Good.{Good}
-use Rattle.rules.proofs.Part
+use Rattle.rules.proofs.Groups as Part
 use Rattle.rules.proofs.Patch.{_by_also_, done, patch}
 use Rattle.rules.proofs.ColumnLaws.{alive-below, alive-other, each-set, other, set-zero}
 use Rattle.rules.proofs.Ids.{id-free}
@@ -234,14 +235,14 @@ leave-bare k s a b = (
 )
 
 -- "Nothing of an ended actor is left": it owns nothing, nothing is aimed at it, its slot is free and its id is nobody's
-pub exit-leaves-nothing : (reason : ℕ) (k : Caps) (s : State) → Good k s → eqb (runner s) 0 ≡ false → reason ≤ 65535 →
-    Bare k (exitRule reason k s .state) (runner s - 1) × (at (exitRule reason k s .state) STATE (runner s - 1) ≡ FREE) × (isActor (exitRule reason k s .state) (runnerId s) ≡ false)
+pub exit-leaves-nothing : (reason : ℕ) (k : Caps) (s : State) → Good k s → eqb (runner s) 0 ≡ false → reason ≤ LAST-REASON →
+    Bare k (ruled (exitEntry reason) k s .state) (runner s - 1) × (at (ruled (exitEntry reason) k s .state) STATE (runner s - 1) ≡ FREE) × (isActor (ruled (exitEntry reason) k s .state) (runnerId s) ≡ false)
 unfolding ruled
 exit-leaves-nothing reason k s g q h =
     let a = runner s - 1 in
     let run : runner s ≡ suc a = omega (arith, eqb-false (runner s) 0 q) in
-    let r : ltb 65535 reason ≡ false = le-ltb 65535 reason h in
+    let r : ltb LAST-REASON reason ≡ false = le-ltb LAST-REASON reason h in
     let u = dropped k a (farewell k a (actorId s a) reason s .state) in
     let b = leave-bare k u a (dropped-bare k s g a reason run) in
-    let l : a < 64 = omega (arith, g .head .0 .1, g .range .fewActors) in
-    rw (q, r) (b .0, b .1, id-free (leave u a) (actorId s a) (ap (λ (i : ℕ). at (leave u a) STATE i) (slot-of-id 64 (at s AGE a) a l) ∙ b .1))
+    let l : a < ACTOR-FACTOR = omega (arith, g .head .0 .1, g .range .fewActors) in
+    rw (q, r) (b .0, b .1, id-free (leave u a) (actorId s a) (ap (λ (i : ℕ). at (leave u a) STATE i) (slot-of-id ACTOR-FACTOR (at s AGE a) a l) ∙ b .1))

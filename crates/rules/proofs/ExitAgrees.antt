@@ -27,18 +27,19 @@ use Rattle.records.specs.Header.{classOf, packed, tagOf}
 use Rattle.records.specs.Records.{exitBytes}
 use Rattle.tables.specs.declared.Caps.{Caps}
 use Rattle.tables.specs.Columns.{AGE, LINK-ONE, LINK-TWO, MONITOR-AGE, PRIORITY, RUNNING, STATE, WATCHED, WATCHER}
+use Rattle.tables.specs.Limits.{ACTOR-FACTOR, LAST-REASON, MONITOR-FACTOR}
 use Rattle.tables.specs.State.{State, at, head, poke, with-col}
 use Rattle.rules.specs.Terms.{RUNS, actorId, alive, joins, monitorId, runner, runnerId}
 use Rattle.rules.specs.Agrees.{Agrees, actorAt, isWorn, linkAt, monitorAt}
 use Rattle.rules.specs.Actions.{hasRoom, letGo, post}
-use Rattle.rules.specs.Calls.{cutLink, cutLinks, cutMonitor, cutMonitors, dropMonitors, dropTimers, exitRule, farewell, leave, linkOf, ruled, tell, tie, Told, told, unwatch}
-use Rattle.rules.proofs.Claims.{Agreed}
+use Rattle.rules.specs.Calls.{Told, cutLink, cutLinks, cutMonitor, cutMonitors, dropMonitors, dropTimers, exitEntry, farewell, leave, linkOf, ruled, tell, tie, told, unwatch}
+use Rattle.rules.proofs.Claims.{Agreed, Tested}
 use Rattle.rules.proofs.Good.{Good}
 use Rattle.rules.proofs.ColumnLaws.{alive-of, other, set-zero}
-use Rattle.rules.proofs.LedgerLaws.{alive-slot, id-eqb, map-same-on, running-is, slot-map, those-map}
+use Rattle.rules.proofs.LedgerLaws.{alive-slot, id-eqb, idle-same, map-same-on, running-is, slot-map, those-map}
 use Rattle.rules.proofs.TieLaws
 use Rattle.rules.proofs.TieLaws.{below, ends, keep-in, set-cond, used-inside, worn-ends}
-use Rattle.rules.proofs.AgreeLaws.{agrees-people}
+use Rattle.rules.proofs.AgreeLaws.{agrees-links, agrees-monitors, agrees-people}
 use Rattle.rules.proofs.Frame.{wrote-none}
 use Rattle.rules.proofs.Frames.{wrote-leave, wrote-letGo, wrote-tie}
 use Rattle.rules.proofs.Ties.{dropMonitors-ends, dropMonitors-keeps, dropTimers-ends, dropTimers-keeps, unwatch-ends}
@@ -174,12 +175,12 @@ module _ (k : Caps) (l : Ledger) (s : State) (a me reason : ℕ) (q : Monitor �
       let f : Link → ℕ → Bool = λ x c. linkedTo k s a c && Reckon.joins me (actorId s c) x in
       let same : ltb (linkOf k u (suc a) (suc b)) (k .links) ≡ linkedTo k s a b =
       ap (λ (x : ℕ). ltb x (k .links)) (lowest-same (joins (s LINK-ONE) (s LINK-TWO) (suc a) (suc b)) (joins (u LINK-ONE) (u LINK-TWO) (suc a) (suc b)) (k .links) (λ e l. w .joined b e l ∙ rw (le-ltb b b (omega arith)))) in
-      let id : actorId u b ≡ actorId s b = ap (λ (c : List ℕ). idOf 64 (getD c b 0) b) (w .wrote .cols AGE refl) in
+      let id : actorId u b ≡ actorId s b = ap (λ (c : List ℕ). idOf ACTOR-FACTOR (getD c b 0) b) (w .wrote .cols AGE refl) in
       split (ltb (linkOf k u (suc a) (suc b)) (k .links))
       (λ y. let o = link-found k u a b g y in
       let lk : linkedTo k s a b ≡ true = sym same ∙ y in
       let c = untied k s u a me b e w (o .0) (o .1) in
-      let x : actorId (tie u e 0 0) b ≡ actorId s b = ap (λ (c : List ℕ). idOf 64 (getD c b 0) b) (wrote-tie (wrote-none u) e 0 0 .cols AGE refl) ∙ id in
+      let x : actorId (tie u e 0 0) b ≡ actorId s b = ap (λ (c : List ℕ). idOf ACTOR-FACTOR (getD c b 0) b) (wrote-tie (wrote-none u) e 0 0 .cols AGE refl) ∙ id in
       rw (cutLink-yes k a me reason b t y)
       (along-same (ap (λ (i : ℕ). ns ++ (notice me reason 0 i ∷ [])) x ∙ sym (rows-yes (linkedTo k s a) (λ c. notice me reason 0 (actorId s c)) b lk))
       (ap (λ (i : ℕ). λ (x : Link). linkGone k s a me b x || Reckon.joins me i x) id ∙ upto-more f b (linkedTo k s a b) (Reckon.joins me (actorId s b)) (λ x. refl) lk) refl
@@ -208,7 +209,7 @@ unfolding endMonitors
 unwatch-along k l ns p q t i g m r =
     let s = t .state in
     let c = left l (take (t .sent) ns) p q (r .worn) in
-    let ws = r .worn ++ wornBy 128 (map (λ m. m .id) (those (λ m. eqb (m .id) (monitorId s i)) (c .ties .monitors))) in
+    let ws = r .worn ++ wornBy MONITOR-FACTOR (map (λ m. m .id) (those (λ m. eqb (m .id) (monitorId s i)) (c .ties .monitors))) in
     record {
       worn = ws;
       agrees = subst (λ (x : List Monitor). Agrees k (withTies c (ties (c .ties .links) x ws)) (unwatch s i)) (those-then q (λ m. eqb (m .id) (monitorId s i)) (l .ties .monitors)) (unwatch-agrees k c s i g (r .agrees) m);
@@ -240,13 +241,13 @@ module _ (k : Caps) (l : Ledger) (s : State) (a me reason : ℕ) (ns : List Mess
       let f : Monitor → ℕ → Bool = λ x i. seenBy s a i && eqb (x .id) (monitorId s i) in
       let n = unseen-next k s u a me i w in
       let same : eqb (at u WATCHED i) (suc a) ≡ seenBy s a i = ap (λ (x : ℕ). eqb x (suc a)) (n .0) in
-      let id : monitorId u i ≡ monitorId s i = ap (λ (c : List ℕ). idOf 128 (getD c i 0) i) (w .age) in
+      let id : monitorId u i ≡ monitorId s i = ap (λ (c : List ℕ). idOf MONITOR-FACTOR (getD c i 0) i) (w .age) in
       split (eqb (at u WATCHED i) (suc a))
       (λ y. let o = watcher-there k u a i g m (eqb-true (at u WATCHED i) (suc a) y) in
       let sn : seenBy s a i ≡ true = sym same ∙ y in
       let x = unwatch-ends k u i (g .sized) m in
       let c = unseen-one k s u a me i w m sn in
-      let who : actorId (unwatch u i) (at u WATCHER i - 1) ≡ actorId s (at s WATCHER i - 1) = ap₂ (λ (c : List ℕ) (v : ℕ). idOf 64 (getD c (v - 1) 0) (v - 1)) (x .wrote .cols AGE refl ∙ w .wrote .cols AGE refl) (n .1) in
+      let who : actorId (unwatch u i) (at u WATCHER i - 1) ≡ actorId s (at s WATCHER i - 1) = ap₂ (λ (c : List ℕ) (v : ℕ). idOf ACTOR-FACTOR (getD c (v - 1) 0) (v - 1)) (x .wrote .cols AGE refl ∙ w .wrote .cols AGE refl) (n .1) in
       rw (cutMonitor-yes k a me reason i t y)
       (along-same
       (append-assoc ns es _ ∙ ap (λ (l : List Message). ns ++ l) (ap₂ (λ (i : ℕ) (j : ℕ). es ++ (notice me reason i j ∷ [])) id who ∙ sym (rows-yes (seenBy s a) (λ i. notice me reason (monitorId s i) (actorId s (at s WATCHER i - 1))) i sn)))
@@ -277,20 +278,20 @@ module _ (k : Caps) (s : State) (l : Ledger) (g : Good k s) (r : Agrees k l s) (
   linked-past c h = split (linkedTo k s a c) (λ q. absurd (omega (arith, alive-slot k s g c (linked-there c q)))) (λ q. q)
 
   -- "links removed by ascending partner slot, each partner sent a notice"
-  link-notices : map (λ x. notice (actorId s a) reason 0 (x .id)) (bySlot (λ x. x .id % 64) 64 (those (λ x. linked l (actorId s a) (x .id)) (l .people .live))) ≡ linkNotes k s a (actorId s a) reason (k .actors)
+  link-notices : map (λ x. notice (actorId s a) reason 0 (x .id)) (bySlot (λ x. x .id % ACTOR-FACTOR) ACTOR-FACTOR (those (λ x. linked l (actorId s a) (x .id)) (l .people .live))) ≡ linkNotes k s a (actorId s a) reason (k .actors)
   link-notices =
       let me = actorId s a in
       let f : ℕ → Message = λ c. notice (actorId s a) reason 0 (actorId s c) in
       let used : (e : ℕ) → 0 < occurs e (r .people .slots) → alive (s STATE) e ≡ true = λ e o. exact-used (alive (s STATE)) (r .people .slots) e (r .people .allSlots) o in
-      ap (λ (x : List Actor). map (λ x. notice (actorId s a) reason 0 (x .id)) (bySlot (λ x. x .id % 64) 64 x))
+      ap (λ (x : List Actor). map (λ x. notice (actorId s a) reason 0 (x .id)) (bySlot (λ x. x .id % ACTOR-FACTOR) ACTOR-FACTOR x))
       (ap (those (λ x. linked l (actorId s a) (x .id))) (r .people .live) ∙ those-map (λ x. linked l (actorId s a) (x .id)) (actorAt s) (r .people .slots)
       ∙ ap (map (actorAt s)) (keep-same-on (λ e. linked l (actorId s a) (actorId s e)) (linkedTo k s a) (r .people .slots) (λ e o. linked-same k l s g r a e there (used e o))))
-      ∙ ap (map (λ x. notice (actorId s a) reason 0 (x .id))) (slot-map (λ x. x .id % 64) (actorAt s) 64 (keep (linkedTo k s a) (r .people .slots)))
-      ∙ map-map (λ x. notice (actorId s a) reason 0 (x .id)) (actorAt s) (bySlot (λ e. actorId s e % 64) 64 (keep (linkedTo k s a) (r .people .slots)))
-      ∙ ap (map f) (slot-rows (λ e. actorId s e % 64) (alive (s STATE)) (linkedTo k s a) (r .people .slots) (r .people .allSlots) (λ e o. slot-of-id 64 (at s AGE e) e (omega (arith, alive-slot k s g e (used e o), g .range .fewActors))) 64)
-      ∙ map-rows f (λ e. alive (s STATE) e && linkedTo k s a e) (λ e. e) 64
-      ∙ rows-same (λ e. alive (s STATE) e && linkedTo k s a e) (linkedTo k s a) f f 64 (λ e h. split (linkedTo k s a e) (λ q. rw (q, linked-there e q)) (λ q. rw q (and-false (alive (s STATE) e)))) (λ e h. refl)
-      ∙ rows-past (linkedTo k s a) f (k .actors) 64 (g .range .fewActors) linked-past
+      ∙ ap (map (λ x. notice (actorId s a) reason 0 (x .id))) (slot-map (λ x. x .id % ACTOR-FACTOR) (actorAt s) ACTOR-FACTOR (keep (linkedTo k s a) (r .people .slots)))
+      ∙ map-map (λ x. notice (actorId s a) reason 0 (x .id)) (actorAt s) (bySlot (λ e. actorId s e % ACTOR-FACTOR) ACTOR-FACTOR (keep (linkedTo k s a) (r .people .slots)))
+      ∙ ap (map f) (slot-rows (λ e. actorId s e % ACTOR-FACTOR) (alive (s STATE)) (linkedTo k s a) (r .people .slots) (r .people .allSlots) (λ e o. slot-of-id ACTOR-FACTOR (at s AGE e) e (omega (arith, alive-slot k s g e (used e o), g .range .fewActors))) ACTOR-FACTOR)
+      ∙ map-rows f (λ e. alive (s STATE) e && linkedTo k s a e) (λ e. e) ACTOR-FACTOR
+      ∙ rows-same (λ e. alive (s STATE) e && linkedTo k s a e) (linkedTo k s a) f f ACTOR-FACTOR (λ e h. split (linkedTo k s a e) (λ q. rw (q, linked-there e q)) (λ q. rw q (and-false (alive (s STATE) e)))) (λ e h. refl)
+      ∙ rows-past (linkedTo k s a) f (k .actors) ACTOR-FACTOR (g .range .fewActors) linked-past
 
   -- a monitor on slot a is one of them, and in use
   seen-there : (i : ℕ) → seenBy s a i ≡ true → (i < k .monitors) × (at s WATCHER i ≡ 0 → ⊥)
@@ -307,19 +308,19 @@ module _ (k : Caps) (s : State) (l : Ledger) (g : Good k s) (r : Agrees k l s) (
       up-id k l s g r (at s WATCHED e) a (h .1 .0 .0) (h .1 .0 .1) there
 
   -- "monitors on the actor removed by ascending monitor slot, each watcher sent a notice"
-  eye-notices : map (λ m. notice (actorId s a) reason (m .id) (m .watcher)) (bySlot (λ m. m .id % 128) 128 (those (λ m. eqb (m .target) (actorId s a)) (l .ties .monitors))) ≡ eyeNotes s a (actorId s a) reason (k .monitors)
+  eye-notices : map (λ m. notice (actorId s a) reason (m .id) (m .watcher)) (bySlot (λ m. m .id % MONITOR-FACTOR) MONITOR-FACTOR (those (λ m. eqb (m .target) (actorId s a)) (l .ties .monitors))) ≡ eyeNotes s a (actorId s a) reason (k .monitors)
   eye-notices =
       let f : ℕ → Message = λ i. notice (actorId s a) reason (monitorId s i) (actorId s (at s WATCHER i - 1)) in
       let u : ℕ → Bool = λ i. not (unused (s WATCHER) i) in
-      ap (λ (x : List Monitor). map (λ m. notice (actorId s a) reason (m .id) (m .watcher)) (bySlot (λ m. m .id % 128) 128 x))
+      ap (λ (x : List Monitor). map (λ m. notice (actorId s a) reason (m .id) (m .watcher)) (bySlot (λ m. m .id % MONITOR-FACTOR) MONITOR-FACTOR x))
       (ap (those (λ m. eqb (m .target) (actorId s a))) (r .monitors .monitors) ∙ those-map (λ m. eqb (m .target) (actorId s a)) (monitorAt s) (r .monitors .eyes)
       ∙ ap (map (monitorAt s)) (keep-same-on (λ e. eqb (actorId s (at s WATCHED e - 1)) (actorId s a)) (seenBy s a) (r .monitors .eyes) target-same))
-      ∙ ap (map (λ m. notice (actorId s a) reason (m .id) (m .watcher))) (slot-map (λ m. m .id % 128) (monitorAt s) 128 (keep (seenBy s a) (r .monitors .eyes)))
-      ∙ map-map (λ m. notice (actorId s a) reason (m .id) (m .watcher)) (monitorAt s) (bySlot (λ e. monitorId s e % 128) 128 (keep (seenBy s a) (r .monitors .eyes)))
-      ∙ ap (map f) (slot-rows (λ e. monitorId s e % 128) u (seenBy s a) (r .monitors .eyes) (r .monitors .allEyes) (λ e o. slot-of-id 128 (at s MONITOR-AGE e) e (omega (arith, eye-used k l s s g r e o .1, g .range .fewMonitors))) 128)
-      ∙ map-rows f (λ e. u e && seenBy s a e) (λ e. e) 128
-      ∙ rows-same (λ e. u e && seenBy s a e) (seenBy s a) f f 128 (λ e h. split (seenBy s a e) (λ q. rw (q, ne-eqb (at s WATCHER e) 0 (seen-there e q .1))) (λ q. rw q (and-false (u e)))) (λ e h. refl)
-      ∙ rows-past (seenBy s a) f (k .monitors) 128 (g .range .fewMonitors) (λ e h. split (seenBy s a e) (λ q. absurd (omega (arith, seen-there e q .0))) (λ q. q))
+      ∙ ap (map (λ m. notice (actorId s a) reason (m .id) (m .watcher))) (slot-map (λ m. m .id % MONITOR-FACTOR) (monitorAt s) MONITOR-FACTOR (keep (seenBy s a) (r .monitors .eyes)))
+      ∙ map-map (λ m. notice (actorId s a) reason (m .id) (m .watcher)) (monitorAt s) (bySlot (λ e. monitorId s e % MONITOR-FACTOR) MONITOR-FACTOR (keep (seenBy s a) (r .monitors .eyes)))
+      ∙ ap (map f) (slot-rows (λ e. monitorId s e % MONITOR-FACTOR) u (seenBy s a) (r .monitors .eyes) (r .monitors .allEyes) (λ e o. slot-of-id MONITOR-FACTOR (at s MONITOR-AGE e) e (omega (arith, eye-used k l s s g r e o .1, g .range .fewMonitors))) MONITOR-FACTOR)
+      ∙ map-rows f (λ e. u e && seenBy s a e) (λ e. e) MONITOR-FACTOR
+      ∙ rows-same (λ e. u e && seenBy s a e) (seenBy s a) f f MONITOR-FACTOR (λ e h. split (seenBy s a e) (λ q. rw (q, ne-eqb (at s WATCHER e) 0 (seen-there e q .1))) (λ q. rw q (and-false (u e)))) (λ e h. refl)
+      ∙ rows-past (seenBy s a) f (k .monitors) MONITOR-FACTOR (g .range .fewMonitors) (λ e h. split (seenBy s a e) (λ q. absurd (omega (arith, seen-there e q .0))) (λ q. q))
 
   -- both
   pub notices-are : linkNotes k s a (actorId s a) reason (k .actors) ++ eyeNotes s a (actorId s a) reason (k .monitors) ≡ notices l (actorId s a) reason
@@ -367,7 +368,7 @@ module _ (k : Caps) (s : State) (l : Ledger) (g : Good k s) (r : Agrees k l s) (
   eye-goes : (e : ℕ) → 0 < occurs e (r .monitors .eyes) → eyeGone s a (k .monitors) (monitorAt s e) ≡ seenBy s a e
   eye-goes e o =
       let u = eye-used k l s s g r e o in
-      let same : (i : ℕ) → i < k .monitors → eqb (monitorId s e) (monitorId s i) ≡ eqb e i = λ i m. TieLaws.id-eqb 128 (s MONITOR-AGE) e i (omega (arith, u .1, g .range .fewMonitors)) (omega (arith, g .range .fewMonitors)) in
+      let same : (i : ℕ) → i < k .monitors → eqb (monitorId s e) (monitorId s i) ≡ eqb e i = λ i m. TieLaws.id-eqb MONITOR-FACTOR (s MONITOR-AGE) e i (omega (arith, u .1, g .range .fewMonitors)) (omega (arith, g .range .fewMonitors)) in
       split (seenBy s a e)
       (λ q. rw q (upto-yes (λ i. seenBy s a i && eqb (monitorId s e) (monitorId s i)) e (k .monitors) (u .1) (rw (q, same e (u .1)) (eq-eqb e e refl))))
       (λ q. rw q (upto-no (λ i. seenBy s a i && eqb (monitorId s e) (monitorId s i)) (k .monitors) (λ i m. rw (same i m)
@@ -386,7 +387,7 @@ module _ (k : Caps) (s : State) (l : Ledger) (g : Good k s) (r : Agrees k l s) (
 
   -- the worn slots of monitors, where just these ended
   pub eyes-worn : (u : State) → u MONITOR-AGE ≡ s MONITOR-AGE → ((e : ℕ) → at u WATCHER e ≡ cond (seenBy s a e || eqb (at s WATCHER e) (suc a)) 0 (at s WATCHER e)) →
-      Exact (l .ties .worn ++ wornBy 128 (map (λ m. m .id) (those (λ m. eqb (m .target) (actorId s a) || eqb (m .watcher) (actorId s a)) (l .ties .monitors)))) (isWorn (u WATCHER) (u MONITOR-AGE))
+      Exact (l .ties .worn ++ wornBy MONITOR-FACTOR (map (λ m. m .id) (those (λ m. eqb (m .target) (actorId s a) || eqb (m .watcher) (actorId s a)) (l .ties .monitors)))) (isWorn (u WATCHER) (u MONITOR-AGE))
   eyes-worn u y h =
       let p : ℕ → Bool = λ e. seenBy s a e || eqb (at s WATCHER e) (suc a) in
       let same : (e : ℕ) → 0 < occurs e (r .monitors .eyes) → eqb (actorId s (at s WATCHED e - 1)) (actorId s a) || eqb (actorId s (at s WATCHER e - 1)) (actorId s a) ≡ seenBy s a e || eqb (at s WATCHER e) (suc a) =
@@ -400,19 +401,14 @@ module _ (k : Caps) (s : State) (l : Ledger) (g : Good k s) (r : Agrees k l s) (
         map-map (λ x. x .id) (monitorAt s) (keep (λ e. seenBy s a e || eqb (at s WATCHER e) (suc a)) (r .monitors .eyes)),
         y,
       )
-      (worn-ends (s WATCHER) (u WATCHER) p h 128 (s MONITOR-AGE) (r .monitors .eyes) (l .ties .worn) (λ e o. omega (arith, eye-used k l s s g r e o .1, g .range .fewMonitors)) (r .monitors .allEyes) (r .monitors .wornEyes))
+      (worn-ends (s WATCHER) (u WATCHER) p h MONITOR-FACTOR (s MONITOR-AGE) (r .monitors .eyes) (l .ties .worn) (λ e o. omega (arith, eye-used k l s s g r e o .1, g .range .fewMonitors)) (r .monitors .allEyes) (r .monitors .wornEyes))
 
 -- the same with its links, monitors and worn slots of monitors otherwise listed
 ties-again : (k : Caps) (l : Ledger) (s : State) (links : List Link) (monitors : List Monitor) (worn : List ℕ) → links ≡ l .ties .links → monitors ≡ l .ties .monitors → Exact worn (isWorn (s WATCHER) (s MONITOR-AGE)) →
     Agrees k l s → Agrees k (withTies l (ties links monitors worn)) s
-ties-again k l s links monitors worn e f x r = record {
-  sizes = r .sizes;
-  people = r .people;
-  mail = r .mail;
-  time = r .time;
-  links = record { bonds = r .links .bonds; allBonds = r .links .allBonds; links = e ∙ r .links .links };
-  monitors = record { eyes = r .monitors .eyes; allEyes = r .monitors .allEyes; monitors = f ∙ r .monitors .monitors; wornEyes = x };
-}
+ties-again k l s links monitors worn e f x r =
+    let u = agrees-links (wrote-none s) r links refl refl (record { bonds = r .links .bonds; allBonds = r .links .allBonds; links = e ∙ r .links .links }) in
+    agrees-monitors (wrote-none s) u monitors worn refl refl (record { eyes = r .monitors .eyes; allEyes = r .monitors .allEyes; monitors = f ∙ r .monitors .monitors; wornEyes = x })
 
 -- ---- the slot is given back
 pub leave-agrees : (k : Caps) (s : State) (l : Ledger) (a : ℕ) → Good k s → Agrees k l s → alive (s STATE) a ≡ true → Agrees k (gone (actorId s a) l) (leave s a)
@@ -430,7 +426,7 @@ leave-agrees k s l a g r there =
       live = ap (those (λ x. not (eqb (x .id) (actorId s a)))) (r .people .live) ∙ those-map (λ x. not (eqb (x .id) (actorId s a))) (actorAt s) (r .people .slots)
           ∙ ap (map (actorAt s)) (keep-same-on (λ b. not (eqb (actorId s b) (actorId s a))) (λ b. not (eqb b a)) (r .people .slots) (λ b o. ap not (id-eqb k s g b a (used b o) there)))
           ∙ map-same-on (actorAt s) (actorAt (leave s a)) (keep (λ b. not (eqb b a)) (r .people .slots)) (λ b o. rw (other (s PRIORITY) a 0 b (not-true (eqb b a) (keep-in (λ b. not (eqb b a)) (r .people .slots) b o .1))));
-      wornSlots = rw alone at (worn-ends (s STATE) (set (s STATE) a 0) (λ e. eqb e a) set₀ 64 (s AGE) (r .people .slots) (l .people .worn) (λ e o. omega (arith, alive-slot k s g e (used e o), g .range .fewActors)) (r .people .allSlots) (r .people .wornSlots));
+      wornSlots = rw alone at (worn-ends (s STATE) (set (s STATE) a 0) (λ e. eqb e a) set₀ ACTOR-FACTOR (s AGE) (r .people .slots) (l .people .worn) (λ e o. omega (arith, alive-slot k s g e (used e o), g .range .fewActors)) (r .people .allSlots) (r .people .wornSlots));
     })
 
 -- ---- all of an exit
@@ -439,7 +435,7 @@ eyes-same : (s u : State) (a me reason n : ℕ) → u WATCHED ≡ s WATCHED → 
     (eyeNotes u a me reason n ≡ eyeNotes s a me reason n) × (eyeGone u a n ≡ eyeGone s a n)
 eyes-same s u a me reason n e f y z = (
   rows-same (seenBy u a) (seenBy s a) (λ i. notice me reason (monitorId u i) (actorId u (at u WATCHER i - 1))) (λ i. notice me reason (monitorId s i) (actorId s (at s WATCHER i - 1))) n (λ i l. rw e) (λ i l. rw (f, y, z)),
-  ap₂ (λ (c d : List ℕ). λ (m : Monitor). upto (λ i. eqb (getD c i 0) (suc a) && eqb (m .id) (idOf 128 (getD d i 0) i)) n) e y,
+  ap₂ (λ (c d : List ℕ). λ (m : Monitor). upto (λ i. eqb (getD c i 0) (suc a) && eqb (m .id) (idOf MONITOR-FACTOR (getD d i 0) i)) n) e y,
 )
 
 module _ (k : Caps) (s : State) (l : Ledger) (g : Good k s) (r : Agrees k l s) (a reason : ℕ) (run : runner s ≡ suc a) where
@@ -533,8 +529,8 @@ module _ (k : Caps) (s : State) (l : Ledger) (g : Good k s) (r : Agrees k l s) (
       let f = dropTimers a (k .timers) m in
       let gf = dropTimers-keeps k a m gm in
       let y = dropTimers-ends k a m (gm .sized) in
-      let im : actorId m a ≡ me = ap (λ (c : List ℕ). idOf 64 (getD c a 0) a) (x .wrote .cols AGE refl) ∙ w .going .id in
-      let if : actorId f a ≡ me = ap (λ (c : List ℕ). idOf 64 (getD c a 0) a) (y .wrote .cols AGE refl) ∙ im in
+      let im : actorId m a ≡ me = ap (λ (c : List ℕ). idOf ACTOR-FACTOR (getD c a 0) a) (x .wrote .cols AGE refl) ∙ w .going .id in
+      let if : actorId f a ≡ me = ap (λ (c : List ℕ). idOf ACTOR-FACTOR (getD c a 0) a) (y .wrote .cols AGE refl) ∙ im in
       let vm : alive (m STATE) a ≡ true = ap (λ (c : List ℕ). alive c a) (x .wrote .cols STATE refl) ∙ going-alive (w .going) in
       let vf : alive (f STATE) a ≡ true = ap (λ (c : List ℕ). alive c a) (y .wrote .cols STATE refl) ∙ vm in
       let z = farewell-along k s l g r a reason run in
@@ -548,12 +544,16 @@ module _ (k : Caps) (s : State) (l : Ledger) (g : Good k s) (r : Agrees k l s) (
       ties-again k (gone me l₃) (leave f a)
       (those (λ x. not (eqb (x .one) me || eqb (x .two) me)) (l .ties .links))
       (those (λ m. not (eqb (m .target) me || eqb (m .watcher) me)) (l .ties .monitors))
-      (l .ties .worn ++ wornBy 128 (map (λ m. m .id) (those (λ m. eqb (m .target) me || eqb (m .watcher) me) (l .ties .monitors))))
+      (l .ties .worn ++ wornBy MONITOR-FACTOR (map (λ m. m .id) (those (λ m. eqb (m .target) me || eqb (m .watcher) me) (l .ties .monitors))))
       (subst (λ (i : ℕ). those (λ x. not (eqb (x .one) i || eqb (x .two) i)) (l .ties .links) ≡ those (λ x. not (linkGone k s₀ a i (k .actors) x)) (l .ties .links)) (w₀ .id) (links-stay k s₀ l₀ (w₀ .good) r₀ a (going-alive w₀)))
       (subst (λ (i : ℕ). those (λ m. not (eqb (m .target) i || eqb (m .watcher) i)) (l .ties .monitors) ≡ those (λ m. not (eqb (m .watcher) i)) (those (λ m. not (eyeGone s₀ a (k .monitors) m)) (l .ties .monitors))) (w₀ .id) (eyes-stay k s₀ l₀ (w₀ .good) r₀ a (going-alive w₀)))
-      (subst (λ (i : ℕ). Exact (l .ties .worn ++ wornBy 128 (map (λ m. m .id) (those (λ m. eqb (m .target) i || eqb (m .watcher) i) (l .ties .monitors)))) (isWorn (leave f a WATCHER) (leave f a MONITOR-AGE))) (w₀ .id)
+      (subst (λ (i : ℕ). Exact (l .ties .worn ++ wornBy MONITOR-FACTOR (map (λ m. m .id) (those (λ m. eqb (m .target) i || eqb (m .watcher) i) (l .ties .monitors)))) (isWorn (leave f a WATCHER) (leave f a MONITOR-AGE))) (w₀ .id)
       (eyes-worn k s₀ l₀ (w₀ .good) r₀ a (going-alive w₀) (leave f a) (v .1 ∙ ages-left) (λ e. ap (λ (c : List ℕ). getD c e 0) (v .0) ∙ watchers-left e)))
       a₄
+
+-- its tests are the reckoning's
+pub exit-same : (reason : ℕ) → Tested (exit reason)
+exit-same reason k s l g r = (idle-same k s g l r, refl, λ h. (refl, refl, λ z. record {}))
 
 -- THE THEOREM of exit, and the reckoning
 pub exit-agrees : (reason : ℕ) → Agreed (exit reason)
@@ -565,10 +565,10 @@ exit-agrees reason k s l g r p =
     subst (λ (i : ℕ). Agrees k (departed i reason (t .sent) l) (leave (dropped k a (t .state)) a)) (sym (running-is k s g l r (p .0))) (departed-agrees k s l g r a reason run)
 
 -- "sent + lost": every notice of the reckoning was sent or lost
-pub exit-counts : (reason : ℕ) (k : Caps) (s : State) (l : Ledger) → Good k s → Agrees k l s → eqb (runner s) 0 ≡ false → reason ≤ 65535 →
-    exitRule reason k s .ans .sent + exitRule reason k s .ans .lost ≡ length (notices l (l .people .running) reason)
+pub exit-counts : (reason : ℕ) (k : Caps) (s : State) (l : Ledger) → Good k s → Agrees k l s → eqb (runner s) 0 ≡ false → reason ≤ LAST-REASON →
+    ruled (exitEntry reason) k s .ans .sent + ruled (exitEntry reason) k s .ans .lost ≡ length (notices l (l .people .running) reason)
 unfolding ruled
 exit-counts reason k s l g r q h =
     let a = runner s - 1 in
     let run : runner s ≡ suc a = omega (arith, eqb-false (runner s) 0 q) in
-    rw (q, le-ltb 65535 reason h) (farewell-along k s l g r a reason run .count ∙ ap (λ (i : ℕ). length (notices l i reason)) (sym (running-is k s g l r q)))
+    rw (q, le-ltb LAST-REASON reason h) (farewell-along k s l g r a reason run .count ∙ ap (λ (i : ℕ). length (notices l i reason)) (sym (running-is k s g l r q)))

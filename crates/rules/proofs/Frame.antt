@@ -2,7 +2,7 @@
 use Prim.Native.Nat.{ℕ, _+_, _-_, _≤_, _<_}
 use mathlib.Core.Path.{_≡_, refl, sym, ap, _∙_, fun-ext}
 use mathlib.Core.Bool.{Bool, true, false, cond, not, _&&_, _||_}
-use mathlib.Core.List.{List, [], _∷_, _++_}
+use mathlib.Core.List.{List, [], _∷_}
 use native.Mathlib.Omega.{arith}
 use lib.ListN.{length, set, length-set}
 use lib.Seq.{take-all, length-sets}
@@ -51,16 +51,6 @@ apart-at (b ∷ cs) ds e c m =
     split (eqb c b)
     (λ q. rw (eqb-true c b q) (not-false (mem b ds) (and-left (not (mem b ds)) (apart cs ds) e)))
     (λ q. apart-at cs ds (and-right (not (mem b ds)) (apart cs ds) e) c (rw q at m))
-
--- of two lists end to end that are apart from a third, the first is
-pub apart-left : (xs ys ds : List ℕ) → apart (xs ++ ys) ds ≡ true → apart xs ds ≡ true
-apart-left [] ys ds e = refl
-apart-left (x ∷ xs) ys ds e = rw (and-left (not (mem x ds)) (apart (xs ++ ys) ds) e) (apart-left xs ys ds (and-right (not (mem x ds)) (apart (xs ++ ys) ds) e))
-
--- and the second
-pub apart-right : (xs ys ds : List ℕ) → apart (xs ++ ys) ds ≡ true → apart ys ds ≡ true
-apart-right [] ys ds e = e
-apart-right (x ∷ xs) ys ds e = apart-right xs ys ds (and-right (not (mem x ds)) (apart (xs ++ ys) ds) e)
 
 -- ---- THE FRAME of an action: t is s but for the columns ws
 pub record Beside (ws : List ℕ) (s t : State) : Type 0 where

@@ -4,12 +4,13 @@ use mathlib.Core.Path.{_≡_}
 use mathlib.Core.List.{[]}
 use Rattle.tables.specs.declared.Caps.{Caps}
 use Rattle.tables.specs.Columns.{DATA-FREE, MAIL-FREE, PAST}
+use Rattle.tables.specs.Sizes.{COLUMN-BITS, SPARES}
 use Rattle.tables.specs.State.{State, InRange}
 use Rattle.tables.proofs.ViewLaws.{Sized}
 use Rattle.rules.specs.Rule.{Holds}
 use Rattle.rules.specs.Sound.{actorRule, arrivalRule, arrivedRule, bitsRule, capsRule, dataRule, filterRule, headRule, heldRule, idleRule, lateRules, linkRule, mailRule, monitorRule, onceRule, pairRule, plainRules, queueRule, runRule, sizeRule, soundAt, spareRule, timerRule, waitRule}
 use Rattle.rules.proofs.Groups.{Every, groups, ruleAt}
-use Rattle.rules.proofs.Part
+use Rattle.rules.proofs.Groups as Part
 use Rattle.rules.proofs.SoundLaws.{of-range, range-of}
 
 pub record Good (k : Caps) (s : State) : Type 0 where
@@ -17,9 +18,9 @@ pub record Good (k : Caps) (s : State) : Type 0 where
   pub sized : Sized k s
   pub caps : Holds (capsRule k s)
   pub head : Holds (headRule k s)
-  pub spare : (i : ℕ) → i < 6 → Holds (spareRule s i)
-  pub mailBits : (e : ℕ) → e < 256 → Holds (bitsRule (k .mails) (s MAIL-FREE) e)
-  pub dataBits : (d : ℕ) → d < 256 → Holds (bitsRule (k .datas) (s DATA-FREE) d)
+  pub spare : (i : ℕ) → i < SPARES → Holds (spareRule s i)
+  pub mailBits : (e : ℕ) → e < COLUMN-BITS → Holds (bitsRule (k .mails) (s MAIL-FREE) e)
+  pub dataBits : (d : ℕ) → d < COLUMN-BITS → Holds (bitsRule (k .datas) (s DATA-FREE) d)
   pub actors : (a : ℕ) → a < k .actors → Holds (actorRule k s a)
   pub idle : (a : ℕ) → a < k .actors → Holds (idleRule s a)
   pub waits : (a : ℕ) → a < k .actors → Holds (waitRule s a)

@@ -2,7 +2,6 @@
 pub mod Advance
 pub mod Ages
 pub mod AgreeLaws
-pub mod Alike
 pub mod CallFrames
 pub mod Claims
 pub mod Clock
@@ -29,13 +28,13 @@ pub mod NotVacuous
 pub mod NoticeLaws
 pub mod Over
 pub mod PageLaws
-pub mod Part
 pub mod Patch
 pub mod Ready
 pub mod Rearm
 pub mod RuleLaws
 pub mod Running
 pub mod RunningAgrees
+pub mod SameTests
 pub mod SoundLaws
 pub mod Start
 pub mod Story

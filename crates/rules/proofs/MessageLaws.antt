@@ -11,7 +11,7 @@ use lib.Seq.{getD-take, getD-drop, take-take, take-at, drop-at, take-length, dro
 use lib.Dec.{eqb}
 use borrow.Author.Tests.{eqb-true, eqb-false, eq-eqb, ne-eqb}
 use Rattle.pools.specs.Pool.{occurs, Exact}
-use Rattle.pools.specs.Bits.{free, taken, released}
+use Rattle.pools.specs.Bits.{free, taken, released, WORD-BITS}
 use Rattle.pools.specs.Lists.{keep}
 use Rattle.pools.proofs.BoolLaws.{split, flag≤}
 use Rattle.pools.proofs.PoolLaws.{count-same}
@@ -22,6 +22,8 @@ use Rattle.records.specs.Bytes.{le, ofLe}
 use Rattle.records.specs.Header.{classOf}
 use Rattle.tables.proofs.LoopLaws.{sets-apart, sets-same, sets-within, sets-zeros}
 use Rattle.records.proofs.ByteLaws.{length-le, ofLe-le}
+use Rattle.tables.specs.Limits.{ENTRY-BYTES, HEADER-BYTES, PAYLOAD-MOST}
+use Rattle.tables.specs.Sizes.{COLUMN-BITS}
 use Rattle.rules.specs.Rule.{Holds}
 use Rattle.rules.specs.Terms.{headerAt}
 use Rattle.rules.proofs.ColumnLaws.{each-set}
@@ -73,7 +75,7 @@ occurs-column d u col es x past same =
 
 -- ---- the bytes of a data entry
 abbrev pub bytesAt : List ℕ → ℕ → List ℕ
-bytesAt p d = take 256 (drop (256 * d) p)
+bytesAt p d = take ENTRY-BYTES (drop (ENTRY-BYTES * d) p)
 
 -- a part of the first words of a list
 take-drop-take : (m n N : ℕ) (l : List ℕ) → m + n ≤ N → take n (drop m (take N l)) ≡ take n (drop m l)
@@ -86,15 +88,15 @@ module _ (p : List ℕ) (d : ℕ) where
   -- the header is read from the entry's bytes
   pub header-bytes : headerAt p d ≡ ofLe (take 4 (bytesAt p d))
   unfolding headerAt
-  header-bytes = ap ofLe (sym (take-take 4 256 (drop (256 * d) p) (omega arith)))
+  header-bytes = ap ofLe (sym (take-take 4 ENTRY-BYTES (drop (ENTRY-BYTES * d) p) (omega arith)))
 
   -- so is each byte
-  pub byte-bytes : (j : ℕ) → j < 256 → getD p (256 * d + j) 0 ≡ getD (bytesAt p d) j 0
-  byte-bytes j h = sym (getD-take 256 (drop (256 * d) p) j 0 h ∙ getD-drop (256 * d) p j 0)
+  pub byte-bytes : (j : ℕ) → j < ENTRY-BYTES → getD p (ENTRY-BYTES * d + j) 0 ≡ getD (bytesAt p d) j 0
+  byte-bytes j h = sym (getD-take ENTRY-BYTES (drop (ENTRY-BYTES * d) p) j 0 h ∙ getD-drop (ENTRY-BYTES * d) p j 0)
 
   -- and the payload
-  pub text-bytes : (n : ℕ) → n ≤ 252 → take n (drop (256 * d + 4) p) ≡ take n (drop 4 (bytesAt p d))
-  text-bytes n h = ap (take n) (sym (drop-drop 4 (256 * d) p)) ∙ sym (take-drop-take 4 n 256 (drop (256 * d) p) (omega arith))
+  pub text-bytes : (n : ℕ) → n ≤ PAYLOAD-MOST → take n (drop (ENTRY-BYTES * d + HEADER-BYTES) p) ≡ take n (drop 4 (bytesAt p d))
+  text-bytes n h = ap (take n) (sym (drop-drop 4 (ENTRY-BYTES * d) p)) ∙ sym (take-drop-take 4 n ENTRY-BYTES (drop (ENTRY-BYTES * d) p) (omega arith))
 
 module _ (p q : List ℕ) (d : ℕ) (e : bytesAt q d ≡ bytesAt p d) where
   -- an entry with the same bytes has the same header
@@ -102,32 +104,32 @@ module _ (p q : List ℕ) (d : ℕ) (e : bytesAt q d ≡ bytesAt p d) where
   header-same = header-bytes q d ∙ ap (λ (l : List ℕ). ofLe (take 4 l)) e ∙ sym (header-bytes p d)
 
   -- the same payload
-  pub text-same : (n : ℕ) → n ≤ 252 → take n (drop (256 * d + 4) q) ≡ take n (drop (256 * d + 4) p)
+  pub text-same : (n : ℕ) → n ≤ PAYLOAD-MOST → take n (drop (ENTRY-BYTES * d + HEADER-BYTES) q) ≡ take n (drop (ENTRY-BYTES * d + HEADER-BYTES) p)
   text-same n h = text-bytes q d n h ∙ ap (λ (l : List ℕ). take n (drop 4 l)) e ∙ sym (text-bytes p d n h)
 
   -- and the same zeros
-  pub zeros-same : (from n : ℕ) → from + n ≤ 256 → Holds (zeros p (256 * d + from) n) → Holds (zeros q (256 * d + from) n)
+  pub zeros-same : (from n : ℕ) → from + n ≤ ENTRY-BYTES → Holds (zeros p (ENTRY-BYTES * d + from) n) → Holds (zeros q (ENTRY-BYTES * d + from) n)
   unfolding zeros
   zeros-same from n h z i l =
-      let a : 256 * d + from + i ≡ 256 * d + (from + i) = omega arith in
+      let a : ENTRY-BYTES * d + from + i ≡ ENTRY-BYTES * d + (from + i) = omega arith in
       rw a (byte-bytes q d (from + i) (omega arith) ∙ ap (λ (l : List ℕ). getD l (from + i) 0) e ∙ sym (byte-bytes p d (from + i) (omega arith)) ∙ rw a at (z i l))
 
 -- an entry of zeros with the same bytes
-pub blank-same : (p q : List ℕ) (d : ℕ) → bytesAt q d ≡ bytesAt p d → Holds (zeros p (256 * d) 256) → Holds (zeros q (256 * d) 256)
+pub blank-same : (p q : List ℕ) (d : ℕ) → bytesAt q d ≡ bytesAt p d → Holds (zeros p (ENTRY-BYTES * d) ENTRY-BYTES) → Holds (zeros q (ENTRY-BYTES * d) ENTRY-BYTES)
 unfolding zeros
 blank-same p q d e z i l = byte-bytes q d i l ∙ ap (λ (l : List ℕ). getD l i 0) e ∙ sym (byte-bytes p d i l) ∙ z i l
 
 -- an entry of zeros
-pub zeros-blank : (p : List ℕ) (d : ℕ) → bytesAt p d ≡ replicate 256 0 → Holds (zeros p (256 * d) 256)
+pub zeros-blank : (p : List ℕ) (d : ℕ) → bytesAt p d ≡ replicate ENTRY-BYTES 0 → Holds (zeros p (ENTRY-BYTES * d) ENTRY-BYTES)
 unfolding zeros
-zeros-blank p d e i l = byte-bytes p d i l ∙ ap (λ (l : List ℕ). getD l i 0) e ∙ getD-replicate {A = ℕ} 256 i 0 0 l
+zeros-blank p d e i l = byte-bytes p d i l ∙ ap (λ (l : List ℕ). getD l i 0) e ∙ getD-replicate {A = ℕ} ENTRY-BYTES i 0 0 l
 
 -- a message in an entry: a header of four bytes, a payload, zeros
-module _ (p : List ℕ) (d h : ℕ) (m : List ℕ) (small : h < 2 ^ 32) (fits : length m ≤ 252) (e : bytesAt p d ≡ (le 4 h ++ m) ++ replicate (256 - length (le 4 h ++ m)) 0) where
+module _ (p : List ℕ) (d h : ℕ) (m : List ℕ) (small : h < 2 ^ 32) (fits : length m ≤ PAYLOAD-MOST) (e : bytesAt p d ≡ (le 4 h ++ m) ++ replicate (ENTRY-BYTES - length (le 4 h ++ m)) 0) where
   long : length (le 4 h ++ m) ≡ 4 + length m
   long = length-append (le 4 h) m ∙ ap (λ (n : ℕ). n + length m) (length-le 4 h)
 
-  apart : bytesAt p d ≡ le 4 h ++ (m ++ replicate (256 - length (le 4 h ++ m)) 0)
+  apart : bytesAt p d ≡ le 4 h ++ (m ++ replicate (ENTRY-BYTES - length (le 4 h ++ m)) 0)
   apart = e ∙ append-assoc (le 4 h) m _
 
   -- its header
@@ -135,16 +137,16 @@ module _ (p : List ℕ) (d h : ℕ) (m : List ℕ) (small : h < 2 ^ 32) (fits : 
   header-read = header-bytes p d ∙ ap (λ (l : List ℕ). ofLe (take 4 l)) apart ∙ ap ofLe (take-at (le 4 h) _ 4 (length-le 4 h)) ∙ ofLe-le 4 h small
 
   -- its payload
-  pub text-read : take (length m) (drop (256 * d + 4) p) ≡ m
-  text-read = text-bytes p d (length m) fits ∙ ap (λ (l : List ℕ). take (length m) (drop 4 l)) apart ∙ rw (drop-at (le 4 h) (m ++ replicate (256 - length (le 4 h ++ m)) 0) 4 (length-le 4 h)) (take-at m _ (length m) refl)
+  pub text-read : take (length m) (drop (ENTRY-BYTES * d + HEADER-BYTES) p) ≡ m
+  text-read = text-bytes p d (length m) fits ∙ ap (λ (l : List ℕ). take (length m) (drop 4 l)) apart ∙ rw (drop-at (le 4 h) (m ++ replicate (ENTRY-BYTES - length (le 4 h ++ m)) 0) 4 (length-le 4 h)) (take-at m _ (length m) refl)
 
   -- the zeros past it
-  pub zeros-read : Holds (zeros p (256 * d + (4 + length m)) (252 - length m))
+  pub zeros-read : Holds (zeros p (ENTRY-BYTES * d + (HEADER-BYTES + length m)) (PAYLOAD-MOST - length m))
   unfolding zeros
   zeros-read i l =
-      let a : 256 * d + (4 + length m) + i ≡ 256 * d + (length (le 4 h ++ m) + i) = omega (arith, long) in
+      let a : ENTRY-BYTES * d + (HEADER-BYTES + length m) + i ≡ ENTRY-BYTES * d + (length (le 4 h ++ m) + i) = omega (arith, long) in
       rw a (byte-bytes p d (length (le 4 h ++ m) + i) (omega (arith, long)) ∙ ap (λ (l : List ℕ). getD l (length (le 4 h ++ m) + i) 0) e
-      ∙ getD-append-add (le 4 h ++ m) _ i 0 ∙ getD-replicate {A = ℕ} (256 - length (le 4 h ++ m)) i 0 0 (omega (arith, long)))
+      ∙ getD-append-add (le 4 h ++ m) _ i 0 ∙ getD-replicate {A = ℕ} (ENTRY-BYTES - length (le 4 h ++ m)) i 0 0 (omega (arith, long)))
 
 -- ---- data entries are held once: by a mailbox entry or by a hand
 abbrev pub Held : ℕ → List ℕ → List ℕ → List ℕ → Type 0
@@ -172,7 +174,7 @@ module _ (n : ℕ) (md hd df : List ℕ) (h : Held n md hd df) (d : ℕ) (l : d 
   held-once e f m o p q = occurs-once (suc d) md (omega (arith, h d l, flag≤ (not (free df d)))) e f m o p q
 
   -- a hand lets go of it
-  pub held-let : (a : ℕ) → a < length hd → getD hd a 0 ≡ suc d → d / 64 < length df → Held n md (set hd a 0) (released df d)
+  pub held-let : (a : ℕ) → a < length hd → getD hd a 0 ≡ suc d → d / WORD-BITS < length df → Held n md (set hd a 0) (released df d)
   held-let a m q b c o =
       let s = occurs-set (suc c) hd a 0 m in
       each-set (λ c. c < n → occurs (suc c) md + occurs (suc c) (set hd a 0) ≡ boolByte (not (free (released df d) c))) d c
@@ -183,7 +185,7 @@ module _ (n : ℕ) (md hd df : List ℕ) (h : Held n md hd df) (d : ℕ) (l : d 
       o
 
   -- a mailbox entry lets go of it
-  pub held-drop : (e : ℕ) → e < length md → getD md e 0 ≡ suc d → d / 64 < length df → Held n (set md e 0) hd (released df d)
+  pub held-drop : (e : ℕ) → e < length md → getD md e 0 ≡ suc d → d / WORD-BITS < length df → Held n (set md e 0) hd (released df d)
   held-drop a m q b c o =
       let s = occurs-set (suc c) md a 0 m in
       each-set (λ c. c < n → occurs (suc c) (set md a 0) + occurs (suc c) hd ≡ boolByte (not (free (released df d) c))) d c
@@ -212,68 +214,68 @@ module _ (n : ℕ) (md hd df : List ℕ) (h : Held n md hd df) (d : ℕ) (l : d 
       o
 
 -- ---- free bits of entries
-module _ (n : ℕ) (bits : List ℕ) (e : ℕ) (l : e < n) (h : (d : ℕ) → d < 256 → Holds (bitsRule n bits d)) where
+module _ (n : ℕ) (bits : List ℕ) (e : ℕ) (l : e < n) (h : (d : ℕ) → d < COLUMN-BITS → Holds (bitsRule n bits d)) where
   -- no bit past the entries once one is released
-  pub bits-free : (d : ℕ) → d < 256 → Holds (bitsRule n (released bits e) d)
+  pub bits-free : (d : ℕ) → d < COLUMN-BITS → Holds (bitsRule n (released bits e) d)
   bits-free d m g = rw (released-other bits e d (λ q. omega arith)) (h d m g)
 
   -- and once one is taken
-  pub bits-take : (d : ℕ) → d < 256 → Holds (bitsRule n (taken bits e) d)
+  pub bits-take : (d : ℕ) → d < COLUMN-BITS → Holds (bitsRule n (taken bits e) d)
   bits-take d m g = rw (taken-other bits e d (λ q. omega arith)) (h d m g)
 
 -- ---- data entries, over their columns: free bits, senders, lengths, payload, and the actors' ages
 abbrev pub DataAt : List ℕ → List ℕ → List ℕ → List ℕ → List ℕ → ℕ → Type 0
 DataAt df sn ln p ages e =
-    (free df e ≡ true → ((getD sn e 0 ≡ 0) × (getD ln e 0 ≡ 0)) × Holds (zeros p (256 * e) 256))
+    (free df e ≡ true → ((getD sn e 0 ≡ 0) × (getD ln e 0 ≡ 0)) × Holds (zeros p (ENTRY-BYTES * e) ENTRY-BYTES))
     × (not (free df e) ≡ true →
     (Holds (headerRule (headerAt p e)) × Holds (lengthRule (classOf (headerAt p e)) (getD ln e 0)))
-    × (Holds (senderRule ages (classOf (headerAt p e)) (getD sn e 0)) × Holds (zeros p (256 * e + (4 + getD ln e 0)) (252 - getD ln e 0))))
+    × (Holds (senderRule ages (classOf (headerAt p e)) (getD sn e 0)) × Holds (zeros p (ENTRY-BYTES * e + (HEADER-BYTES + getD ln e 0)) (PAYLOAD-MOST - getD ln e 0))))
 
 -- an entry of which nothing changed
 pub data-same : (df df′ sn sn′ ln ln′ p p′ ages : List ℕ) (e : ℕ) → free df′ e ≡ free df e → getD sn′ e 0 ≡ getD sn e 0 → getD ln′ e 0 ≡ getD ln e 0 →
     bytesAt p′ e ≡ bytesAt p e → DataAt df sn ln p ages e → DataAt df′ sn′ ln′ p′ ages e
 data-same df df′ sn sn′ ln ln′ p p′ ages e f n m b h =
     rw (f, n, m, header-same p p′ e b)
-    (λ u. let r = h .0 u in (r .0, blank-same p p′ e b (r .1)), λ u. let r = h .1 u in (r .0, (r .1 .0, zeros-same p p′ e b (4 + getD ln e 0) (252 - getD ln e 0) (omega (arith, r .0 .1 .0)) (r .1 .1))))
+    (λ u. let r = h .0 u in (r .0, blank-same p p′ e b (r .1)), λ u. let r = h .1 u in (r .0, (r .1 .0, zeros-same p p′ e b (4 + getD ln e 0) (PAYLOAD-MOST - getD ln e 0) (omega (arith, r .0 .1 .0)) (r .1 .1))))
 
 -- a payload area in which entry d is wiped, and nothing else changed
 pub record Wiped (p q : List ℕ) (d : ℕ) : Type 0 where
   pub long : length q ≡ length p
-  pub blank : Holds (zeros q (256 * d) 256)
+  pub blank : Holds (zeros q (ENTRY-BYTES * d) ENTRY-BYTES)
   pub apart : (e : ℕ) → eqb e d ≡ false → bytesAt q e ≡ bytesAt p e
 
 -- zeros stored over an entry wipe it
-pub wiped : (p m : List ℕ) (d : ℕ) → 256 * d + 256 ≤ length p → length m ≡ 256 → ((i : ℕ) → i < 256 → getD m i 0 ≡ 0) → Wiped p (sets p (256 * d + 0) m) d
+pub wiped : (p m : List ℕ) (d : ℕ) → ENTRY-BYTES * d + ENTRY-BYTES ≤ length p → length m ≡ ENTRY-BYTES → ((i : ℕ) → i < ENTRY-BYTES → getD m i 0 ≡ 0) → Wiped p (sets p (ENTRY-BYTES * d + 0) m) d
 unfolding zeros
 wiped p m d h l z = record {
-  long = length-sets p (256 * d + 0) m;
-  blank = λ i b. let e : 256 * d + i ≡ 256 * d + 0 + i = omega arith in rw e (sets-same p (256 * d + 0) m i (omega arith) (omega arith) ∙ z i b);
-  apart = λ e q. sets-apart p (256 * e) 256 (256 * d + 0) m (λ j n b o r. eqb-false e d q (omega arith));
+  long = length-sets p (ENTRY-BYTES * d + 0) m;
+  blank = λ i b. let e : ENTRY-BYTES * d + i ≡ ENTRY-BYTES * d + 0 + i = omega arith in rw e (sets-same p (ENTRY-BYTES * d + 0) m i (omega arith) (omega arith) ∙ z i b);
+  apart = λ e q. sets-apart p (ENTRY-BYTES * e) ENTRY-BYTES (ENTRY-BYTES * d + 0) m (λ j n b o r. eqb-false e d q (omega arith));
 }
 
 -- a payload area in which entry d, all zero before, holds a message, and nothing else changed
 pub record Written (p q : List ℕ) (d h : ℕ) (m : List ℕ) : Type 0 where
   pub long : length q ≡ length p
   pub header : headerAt q d ≡ h
-  pub text : take (length m) (drop (256 * d + 4) q) ≡ m
-  pub past : Holds (zeros q (256 * d + (4 + length m)) (252 - length m))
+  pub text : take (length m) (drop (ENTRY-BYTES * d + HEADER-BYTES) q) ≡ m
+  pub past : Holds (zeros q (ENTRY-BYTES * d + (HEADER-BYTES + length m)) (PAYLOAD-MOST - length m))
   pub apart : (e : ℕ) → eqb e d ≡ false → bytesAt q e ≡ bytesAt p e
 
 -- a header and a payload stored from byte 0 of a free entry on are a message
-pub written : (p m : List ℕ) (d h : ℕ) → 256 * d + 256 ≤ length p → h < 2 ^ 32 → length m ≤ 252 → Holds (zeros p (256 * d) 256) →
-    Written p (sets p (256 * d + 0) (le 4 h ++ m)) d h m
+pub written : (p m : List ℕ) (d h : ℕ) → ENTRY-BYTES * d + ENTRY-BYTES ≤ length p → h < 2 ^ 32 → length m ≤ PAYLOAD-MOST → Holds (zeros p (ENTRY-BYTES * d) ENTRY-BYTES) →
+    Written p (sets p (ENTRY-BYTES * d + 0) (le 4 h ++ m)) d h m
 unfolding zeros
 written p m d h l s f z =
     let n : length (le 4 h ++ m) ≡ 4 + length m = length-append (le 4 h) m ∙ ap (λ (n : ℕ). n + length m) (length-le 4 h) in
-    let b : length (bytesAt p d) ≡ 256 = length-take-le 256 (drop (256 * d) p) (rw length-drop (omega arith)) in
-    let r : length (replicate {A = ℕ} 256 0) ≡ 256 = length-replicate {A = ℕ} 256 0 in
-    let e : bytesAt p d ≡ replicate 256 0 = ext-getD 0 (bytesAt p d) (replicate 256 0) (b ∙ sym r) (λ i o. sym (byte-bytes p d i (omega arith)) ∙ z i (omega arith) ∙ sym (getD-replicate {A = ℕ} 256 i 0 0 (omega arith))) in
-    let y : bytesAt (sets p (256 * d + 0) (le 4 h ++ m)) d ≡ (le 4 h ++ m) ++ replicate (256 - length (le 4 h ++ m)) 0 =
-    sets-within p (256 * d) 256 0 (le 4 h ++ m) (omega arith) ∙ ap (λ (l : List ℕ). sets l 0 (le 4 h ++ m)) e ∙ sets-zeros 256 (le 4 h ++ m) (omega arith) in
+    let b : length (bytesAt p d) ≡ ENTRY-BYTES = length-take-le ENTRY-BYTES (drop (ENTRY-BYTES * d) p) (rw length-drop (omega arith)) in
+    let r : length (replicate {A = ℕ} ENTRY-BYTES 0) ≡ ENTRY-BYTES = length-replicate {A = ℕ} ENTRY-BYTES 0 in
+    let e : bytesAt p d ≡ replicate ENTRY-BYTES 0 = ext-getD 0 (bytesAt p d) (replicate ENTRY-BYTES 0) (b ∙ sym r) (λ i o. sym (byte-bytes p d i (omega arith)) ∙ z i (omega arith) ∙ sym (getD-replicate {A = ℕ} ENTRY-BYTES i 0 0 (omega arith))) in
+    let y : bytesAt (sets p (ENTRY-BYTES * d + 0) (le 4 h ++ m)) d ≡ (le 4 h ++ m) ++ replicate (ENTRY-BYTES - length (le 4 h ++ m)) 0 =
+    sets-within p (ENTRY-BYTES * d) ENTRY-BYTES 0 (le 4 h ++ m) (omega arith) ∙ ap (λ (l : List ℕ). sets l 0 (le 4 h ++ m)) e ∙ sets-zeros ENTRY-BYTES (le 4 h ++ m) (omega arith) in
     record {
-      long = length-sets p (256 * d + 0) (le 4 h ++ m);
-      header = header-read (sets p (256 * d + 0) (le 4 h ++ m)) d h m s f y;
-      text = text-read (sets p (256 * d + 0) (le 4 h ++ m)) d h m s f y;
-      past = zeros-read (sets p (256 * d + 0) (le 4 h ++ m)) d h m s f y;
-      apart = λ e q. sets-apart p (256 * e) 256 (256 * d + 0) (le 4 h ++ m) (λ j i b o r. eqb-false e d q (omega arith));
+      long = length-sets p (ENTRY-BYTES * d + 0) (le 4 h ++ m);
+      header = header-read (sets p (ENTRY-BYTES * d + 0) (le 4 h ++ m)) d h m s f y;
+      text = text-read (sets p (ENTRY-BYTES * d + 0) (le 4 h ++ m)) d h m s f y;
+      past = zeros-read (sets p (ENTRY-BYTES * d + 0) (le 4 h ++ m)) d h m s f y;
+      apart = λ e q. sets-apart p (ENTRY-BYTES * e) ENTRY-BYTES (ENTRY-BYTES * d + 0) (le 4 h ++ m) (λ j i b o r. eqb-false e d q (omega arith));
     }

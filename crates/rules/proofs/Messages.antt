@@ -14,7 +14,7 @@ use borrow.Author.Tests.{eqb-true, eqb-false, eq-eqb, le-ltb, leb-false, leb-tru
 use Rattle.pools.specs.Pool.{occurs, Exact}
 use Rattle.pools.specs.Slot.{slotOf}
 use Rattle.pools.proofs.SlotLaws.{age-of-id, id-pos, of-live, slot-of-id}
-use Rattle.pools.specs.Bits.{free, taken, released}
+use Rattle.pools.specs.Bits.{free, taken, released, WORD-BITS}
 use Rattle.pools.proofs.BoolLaws.{split, true-false, and-left, and-right, flag-eq, flag-pos}
 use Rattle.pools.proofs.PoolLaws.{lowest-at, lowest-first}
 use Rattle.pools.proofs.ListLaws.{occurs-place, occurs-pos}
@@ -28,12 +28,14 @@ use Rattle.records.proofs.HeaderLaws.{class-packed, mark-packed, packed-fits, t
 use Rattle.ledger.specs.Call.Op.{notify, receive}
 use Rattle.tables.specs.declared.Caps.{Caps}
 use Rattle.tables.specs.Columns.{AGE, ARRIVAL, ARRIVED, CLOCK, DATA-FREE, DEADLINE, HAND, LENGTH, MAIL-DATA, MAIL-FREE, MAIL-OWNER, PAYLOAD, QUEUE, QUEUED, REASON, RUNNING, SENDER, STATE, WANT-CLASS, WANT-SENDER, WANT-TAG}
+use Rattle.tables.specs.Sizes.{COLUMN-BITS}
+use Rattle.tables.specs.Limits.{ACTOR-FACTOR, ANY-CLASS, ANY-SENDER, ANY-TAG, CLOCK-END, DEADLINE-END, ENTRY-BYTES, LONGEST-WAIT, MOST-DATAS, PAYLOAD-MOST}
 use Rattle.tables.specs.State.{State, at, head, poke, with-col}
 use Rattle.tables.specs.Action.{push, pull, takeBit, freeBit, write, blank}
 use Rattle.tables.proofs.ViewLaws.{Sized}
 use Rattle.tables.proofs.ActionLaws.{poke-same, write-append}
 use Rattle.rules.specs.Rule.{Holds}
-use Rattle.rules.specs.Terms.{ANY-CLASS, ANY-SENDER, ANY-TAG, PAYLOAD-MOST, RUNNABLE, RUNS, WAITS, actorId, alive, fits, isActor, legal, runner, runnerId}
+use Rattle.rules.specs.Terms.{RUNNABLE, RUNS, WAITS, actorId, alive, fits, isActor, legal, runner, runnerId}
 use Rattle.rules.specs.Sound.{actorRule, arrivalRule, arrivedRule, bitsRule, dataRule, filterRule, headRule, headerRule, idleRule, lengthRule, mailRule, onceRule, pairRule, senderRule, waitRule}
 use Rattle.rules.specs.Actions.{dataFor, delist, enlist, fill, hasRoom, hears, letGo, mailFor, post, ready, stir, unfill, unwait, wake}
 use Rattle.rules.specs.Calls.{await, badWait, dataOf, deadlineAt, dropAll, dropFirst, firstMatch, firstOf, handOver, matchAt, notAtAll, receiveBare}
@@ -43,7 +45,7 @@ use Rattle.rules.proofs.Frame.{Beside, Wrote, beside-of, beside-over, w
 use Rattle.rules.proofs.Frames.{MAILED, beside-dropAll, wrote-await, wrote-enlist, wrote-letGo}
 use Rattle.rules.proofs.Good.{Good}
 use Rattle.rules.proofs.GuardLaws.{held, neither}
-use Rattle.rules.proofs.Part
+use Rattle.rules.proofs.Groups as Part
 use Rattle.rules.proofs.Patch.{_by_also_, done, patch, patch-living}
 use Rattle.rules.proofs.ColumnLaws.{alive-begins, alive-below, alive-of, alive-same, each-set, listed-exact, listed-joins, listed-leaves, listed-room, once-joins, of-alive, once-leaves, other, set-zero}
 use Rattle.rules.proofs.LedgerLaws.{alive-age, alive-slot, runner-alive}
@@ -57,7 +59,7 @@ unfilled s d q = with-col (poke (poke (freeBit s DATA-FREE d) SENDER d 0) LENGTH
 
 -- the payload area with entry d wiped
 unfoldable pub wipe : List ℕ → ℕ → List ℕ
-wipe p d = sets p (256 * d + 0) (replicate 256 0)
+wipe p d = sets p (ENTRY-BYTES * d + 0) (replicate ENTRY-BYTES 0)
 
 -- to free a data entry is to write four columns
 pub unfill-is : (s : State) (d : ℕ) → unfill s d ≡ unfilled s d (wipe (s PAYLOAD) d)
@@ -72,14 +74,14 @@ wrote-unfilled w d q e = wrote-with (wrote-poke (wrote-poke (wrote-free w DATA-F
 -- and the payload area is wiped there
 pub wipe-is : (k : Caps) (s : State) (d : ℕ) → Sized k s → d < k .datas → Wiped (s PAYLOAD) (wipe (s PAYLOAD) d) d
 unfolding wipe
-wipe-is k s d z l = wiped (s PAYLOAD) (replicate 256 0) d (omega (arith, z .bytes)) (length-replicate {A = ℕ} 256 0) (λ i b. getD-replicate {A = ℕ} 256 i 0 0 b)
+wipe-is k s d z l = wiped (s PAYLOAD) (replicate ENTRY-BYTES 0) d (omega (arith, z .bytes)) (length-replicate {A = ℕ} ENTRY-BYTES 0) (λ i b. getD-replicate {A = ℕ} ENTRY-BYTES i 0 0 b)
 
 module _ (k : Caps) (s : State) (d : ℕ) (q : List ℕ) (w : Wiped (s PAYLOAD) q d) (z : Sized k s) (l : d < k .datas) where
   -- the data entries are sound
-  pub unfilled-datas : k .datas ≤ 256 → ((e : ℕ) → e < k .datas → Holds (dataRule s e)) → (e : ℕ) → e < k .datas → Holds (dataRule (unfilled s d q) e)
+  pub unfilled-datas : k .datas ≤ MOST-DATAS → ((e : ℕ) → e < k .datas → Holds (dataRule s e)) → (e : ℕ) → e < k .datas → Holds (dataRule (unfilled s d q) e)
   unfolding poke with-col freeBit
   unfilled-datas few h e m =
-      let b : d / 64 < length (s DATA-FREE) = omega (arith, z .words DATA-FREE (lit< tt)) in
+      let b : d / WORD-BITS < length (s DATA-FREE) = omega (arith, z .words DATA-FREE (lit< tt)) in
       let f = released-same (s DATA-FREE) d b in
       each-set (DataAt (released (s DATA-FREE) d) (set (s SENDER) d 0) (set (s LENGTH) d 0) q (s AGE)) d e
       (λ u. ((getD-set-same (s SENDER) d 0 0 (omega (arith, z .words SENDER (lit< tt))), getD-set-same (s LENGTH) d 0 0 (omega (arith, z .words LENGTH (lit< tt)))), w .blank), λ u. true-false (free (released (s DATA-FREE) d) d) f (not-true (free (released (s DATA-FREE) d) d) u))
@@ -139,7 +141,7 @@ wrote-filled w d sender n q e = wrote-with (wrote-poke (wrote-poke (wrote-take w
 
 -- the payload area with a message in entry d
 abbrev pub ink : State → ℕ → ℕ → List ℕ → List ℕ
-ink s d head payload = sets (s PAYLOAD) (256 * d + 0) (le 4 head ++ payload)
+ink s d head payload = sets (s PAYLOAD) (ENTRY-BYTES * d + 0) (le 4 head ++ payload)
 
 -- to fill a data entry is to write four columns
 pub fill-is : (s : State) (d sender head : ℕ) (payload : List ℕ) → fill s d sender head payload ≡ filled s d sender (length payload) (ink s d head payload)
@@ -363,7 +365,7 @@ module _ (k : Caps) (s : State) (g : Good k s) (j : ℕ) (jl : j < at s ARRIVED 
   delist-head = rw one-less (g .head .0, (g .head .1 .0, omega (arith, g .head .1 .1)))
 
   -- so are the bits
-  pub delist-bits : (e : ℕ) → e < 256 → Holds (bitsRule (k .mails) (delist s j MAIL-FREE) e)
+  pub delist-bits : (e : ℕ) → e < COLUMN-BITS → Holds (bitsRule (k .mails) (delist s j MAIL-FREE) e)
   unfolding delist pull poke with-col freeBit
   delist-bits = bits-free (k .mails) (s MAIL-FREE) (mailOf s j) mailOf-below (g .mailBits)
 
@@ -566,16 +568,16 @@ legal-of sender class tag e =
     (leb-true sender ANY-SENDER (and-left (leb sender ANY-SENDER) ((leb class 4 || eqb class ANY-CLASS) && leb tag ANY-TAG) e), leb-true tag ANY-TAG (and-right (leb class 4 || eqb class ANY-CLASS) (leb tag ANY-TAG) b), either .0, either .1)
 
 -- a deadline is later than the clock, and in range
-pub deadline-fits : (clock : ℕ) (wait : ℤ) → clock ≤ 2 ^ 62 → badWait wait ≡ false → notAtAll wait ≡ false → (deadlineAt clock wait ≡ 0 → ⊥) →
-    (clock < deadlineAt clock wait) × (deadlineAt clock wait ≤ 2 ^ 62 + 2 ^ 41)
+pub deadline-fits : (clock : ℕ) (wait : ℤ) → clock ≤ CLOCK-END → badWait wait ≡ false → notAtAll wait ≡ false → (deadlineAt clock wait ≡ 0 → ⊥) →
+    (clock < deadlineAt clock wait) × (deadlineAt clock wait ≤ DEADLINE-END)
 deadline-fits clock (pos n) h b o z =
-    let l = ltb-false (2 ^ 31 - 1) n b in
+    let l = ltb-false LONGEST-WAIT n b in
     let m = eqb-false n 0 o in
     (omega arith, omega arith)
 deadline-fits clock (negsuc n) h b o z = absurd (z refl)
 
 module _ (k : Caps) (s : State) (g : Good k s) (a : ℕ) (runs : runner s ≡ suc a) (sender class tag deadline : ℕ) (right : legal sender class tag ≡ true)
-    (later : (deadline ≡ 0 → ⊥) → (head s CLOCK < deadline) × (deadline ≤ 2 ^ 62 + 2 ^ 41))
+    (later : (deadline ≡ 0 → ⊥) → (head s CLOCK < deadline) × (deadline ≤ DEADLINE-END))
     (unmet : (i : ℕ) → i < head s ARRIVED → matchAt s a sender class tag i ≡ false) where
   -- the slot is one of the slots
   slot-runs : a < k .actors
@@ -651,9 +653,9 @@ receive-keeps sender class tag wait k s g p =
 -- the id of a live actor is a legal sender
 pub sender-fine : (k : Caps) (s : State) (a class : ℕ) → Good k s → alive (s STATE) a ≡ true → Holds (senderRule (s AGE) class (actorId s a))
 sender-fine k s a class g there =
-    let l : a < 64 = omega (arith, alive-slot k s g a there, g .range .fewActors) in
+    let l : a < ACTOR-FACTOR = omega (arith, alive-slot k s g a there, g .range .fewActors) in
     let p = alive-age k s g a there in
-    (λ z. absurd (omega (arith, id-pos 64 (at s AGE a) a p (lit< tt))), λ n. rw (age-of-id 64 (at s AGE a) a l, slot-of-id 64 (at s AGE a) a l) (p, omega arith))
+    (λ z. absurd (omega (arith, id-pos ACTOR-FACTOR (at s AGE a) a p (lit< tt))), λ n. rw (age-of-id ACTOR-FACTOR (at s AGE a) a l, slot-of-id ACTOR-FACTOR (at s AGE a) a l) (p, omega arith))
 
 -- what notify sends is what is asked of a message
 pub notify-fine : (k : Caps) (s : State) (a tag : ℕ) (payload : List ℕ) → Good k s → alive (s STATE) a ≡ true → tag < ANY-TAG → length payload ≤ PAYLOAD-MOST → Fine (s AGE) (actorId s a) (packed 0 0 tag) payload
@@ -673,7 +675,7 @@ pub notify-keeps : (target tag : ℕ) (payload : List ℕ) → Keeps (notify tar
 notify-keeps target tag payload k s g p =
     let bad = leb ANY-TAG tag in
     let long = ltb PAYLOAD-MOST (length payload) in
-    post-keeps k s (slotOf 64 target) g (alive-of (s STATE) (slotOf 64 target) (of-live 64 (s STATE) (s AGE) target (held (isActor s target) (p .1 .1 .0)) .0)) (runnerId s) (packed 0 0 tag) payload (held (hasRoom k s) (p .1 .1 .1 .0))
+    post-keeps k s (slotOf ACTOR-FACTOR target) g (alive-of (s STATE) (slotOf ACTOR-FACTOR target) (of-live ACTOR-FACTOR (s STATE) (s AGE) target (held (isActor s target) (p .1 .1 .0)) .0)) (runnerId s) (packed 0 0 tag) payload (held (hasRoom k s) (p .1 .1 .1 .0))
     (notify-fine k s (runner s - 1) tag payload g (runner-alive k s g (p .0)) (leb-false ANY-TAG tag (neither bad long (p .1 .0) .0)) (ltb-false PAYLOAD-MOST (length payload) (neither bad long (p .1 .0) .1)))
 
 -- ---- what a message leaves as it was

@@ -11,15 +11,15 @@ use lib.ListN.{length, getD, set, drop, length-append, length-map, List·getD-eq
 use lib.Seq.{getD-set-same, getD-take, length-take-le, take-at, take-suc-set}
 use lib.IntN.{ℤ}
 use lib.Dec.{eqb, ltb, leb, lit<}
-use borrow.Author.Tests.{eqb-true, eqb-false, eq-eqb, le-leb, le-ltb, leb-false, leb-true, lt-leb, lt-ltb, ltb-true, ltb-false, ne-eqb, not-true}
+use borrow.Author.Tests.{eqb-true, eqb-false, eq-eqb, le-ltb, leb-false, lt-ltb, ltb-true, ltb-false, ne-eqb, not-true}
 use Rattle.ledger.specs.Lists.{those, first, butFirst}
 use Rattle.ledger.specs.Ledger.{Ledger, Message, Timer, mail, withMail}
 use Rattle.ledger.specs.Call.Call.{op}
 use Rattle.ledger.specs.Call.Op.{notify, receive}
 use Rattle.ledger.specs.Room.{datasLeft, mailsLeft}
-use Rattle.ledger.specs.Reckon.{cleared, entered, message, notice, runs, sent, short, tick, wanted}
-use Rattle.ledger.specs.Reckon.{letGo as release, short}
-use Rattle.ledger.specs.Reckon.{short, taken as grasped}
+use Rattle.ledger.specs.Reckon.{cleared, entered, message, notice, runs, sent, tick, wanted}
+use Rattle.ledger.specs.Reckon.{letGo as release}
+use Rattle.ledger.specs.Reckon.{taken as grasped}
 use Rattle.pools.specs.Pool.{lowest, occurs, Exact}
 use Rattle.pools.specs.Bits.{free}
 use Rattle.pools.specs.Lists.{keep, without}
@@ -35,20 +35,21 @@ use Rattle.records.specs.Records.{exitBytes, tickBytes}
 use Rattle.records.proofs.HeaderLaws.{class-packed, tag-packed}
 use Rattle.tables.specs.declared.Caps.{Caps}
 use Rattle.tables.specs.Columns.{AGE, ARRIVAL, ARRIVED, CLOCK, DATA-FREE, HAND, LENGTH, MAIL-DATA, MAIL-FREE, MAIL-OWNER, PAYLOAD, RUNNING, SENDER, STATE}
+use Rattle.tables.specs.Limits.{ACTOR-FACTOR, ANY-TAG, PAYLOAD-MOST}
 use Rattle.tables.specs.State.{State, at, head, poke, with-col}
 use Rattle.tables.specs.Action.{push, pull, takeBit, freeBit}
-use Rattle.rules.specs.Terms.{ANY-TAG, PAYLOAD-MOST, RUNS, WAITS, actorId, alive, fits, header, isActor, runner, runnerId, wants}
+use Rattle.rules.specs.Terms.{RUNS, WAITS, actorId, alive, fits, header, isActor, runner, runnerId, wants}
 use Rattle.rules.specs.Agrees.{Agrees, arrivals, boxAt, handAt, isWorn, messageOf, usedData, usedMail}
 use Rattle.rules.specs.Actions.{dataFor, delist, enlist, hasRoom, hears, letGo, mailFor, post, ready, unwait, wake}
-use Rattle.rules.specs.Calls.{await, dataOf, deadlineAt, dropAll, dropFirst, firstMatch, firstOf, handOver, matchAt, notAtAll, notifyEntry, receiveBare}
+use Rattle.rules.specs.Calls.{await, dataOf, deadlineAt, dropAll, dropFirst, firstMatch, firstOf, handOver, matchAt, notAtAll, receiveBare}
 use Rattle.rules.specs.Run.{sayReceived}
 use Rattle.rules.specs.declared.Received.{Received}
 use Rattle.rules.proofs.AgreeLaws.{agrees-messages, agrees-people, living}
-use Rattle.rules.proofs.Claims.{Agreed}
+use Rattle.rules.proofs.Claims.{Agreed, Tested}
 use Rattle.rules.proofs.Frame.{Wrote, wrote-none, wrote-poke, wrote-still, wrote-within}
 use Rattle.rules.proofs.Frames.{MAILED, beside-dropFirst, wrote-await, wrote-enlist, wrote-letGo}
 use Rattle.rules.proofs.Good.{Good}
-use Rattle.rules.proofs.GuardLaws.{held, neither, says}
+use Rattle.rules.proofs.GuardLaws.{held, neither}
 use Rattle.rules.proofs.ColumnLaws.{alive-below, alive-of, alive-same, each-set, listed-room, other, set-zero, worn-same}
 use Rattle.rules.proofs.LedgerLaws.{idle-same, known-same, runner-alive, running-is, but-map, first-at, first-map, id-eqb, map-same-on, palm-owner, occurs-later, those-keep, those-map}
 use Rattle.rules.proofs.MessageLaws.{Wiped, Written, bytesAt, header-same, held-apart, held-once, held-palm, held-used, occurs-column, text-same}
@@ -107,12 +108,12 @@ keep-in p es b o =
     split (p b) (λ q. (q, omega (arith, rw q at e))) (λ q. absurd (omega (arith, rw q at e)))
 
 -- a message of which nothing changed
-message-same : (s t : State) (to c : ℕ) → at t SENDER c ≡ at s SENDER c → at t LENGTH c ≡ at s LENGTH c → bytesAt (t PAYLOAD) c ≡ bytesAt (s PAYLOAD) c → at s LENGTH c ≤ 252 → messageOf s to c ≡ messageOf t to c
+message-same : (s t : State) (to c : ℕ) → at t SENDER c ≡ at s SENDER c → at t LENGTH c ≡ at s LENGTH c → bytesAt (t PAYLOAD) c ≡ bytesAt (s PAYLOAD) c → at s LENGTH c ≤ PAYLOAD-MOST → messageOf s to c ≡ messageOf t to c
 message-same s t to c n m b l = rw (n, m, header-same (s PAYLOAD) (t PAYLOAD) c b, text-same (s PAYLOAD) (t PAYLOAD) c b (at s LENGTH c) l)
 
 module _ (k : Caps) (s : State) (g : Good k s) where
   -- a data entry in use has a payload of a legal length
-  length-few : (d : ℕ) → d < k .datas → free (s DATA-FREE) d ≡ false → at s LENGTH d ≤ 252
+  length-few : (d : ℕ) → d < k .datas → free (s DATA-FREE) d ≡ false → at s LENGTH d ≤ PAYLOAD-MOST
   length-few d l q = g .datas d l .1 (rw q) .0 .1 .0
 
   -- an arrival is a mailbox entry in use, and names a data entry in use
@@ -138,7 +139,7 @@ module _ (k : Caps) (s : State) (g : Good k s) where
     arrival-in = omega (arith, arrival-below, g .sized .words MAIL-DATA (lit< tt))
 
     -- the data entry has a payload of a legal length
-    arrival-long : at s LENGTH (at s MAIL-DATA e - 1) ≤ 252
+    arrival-long : at s LENGTH (at s MAIL-DATA e - 1) ≤ PAYLOAD-MOST
     arrival-long = length-few (at s MAIL-DATA e - 1) (arrival-data .1) (held-used (k .datas) (s MAIL-DATA) (s HAND) (s DATA-FREE) (g .held) (at s MAIL-DATA e - 1) (arrival-data .1) e arrival-in (arrival-data .0))
 
   -- a slot with something in hand names a data entry in use
@@ -152,7 +153,7 @@ module _ (k : Caps) (s : State) (g : Good k s) where
     palm-data = let c = g .actors b (omega (arith, palm-in, g .sized .words HAND (lit< tt))) .1 .1 in (omega arith, omega arith)
 
     -- which has a payload of a legal length
-    palm-long : at s LENGTH (at s HAND b - 1) ≤ 252
+    palm-long : at s LENGTH (at s HAND b - 1) ≤ PAYLOAD-MOST
     palm-long = length-few (at s HAND b - 1) (palm-data .1) (held-palm (k .datas) (s MAIL-DATA) (s HAND) (s DATA-FREE) (g .held) (at s HAND b - 1) (palm-data .1) b palm-in (palm-data .0))
 
 -- what stands among the hands is not empty
@@ -304,14 +305,14 @@ not-not false = refl
 pub notify-agrees : (target tag : ℕ) (payload : List ℕ) → Agreed (notify target tag payload)
 unfolding entered
 notify-agrees target tag payload k s l g r p =
-    let a = slotOf 64 target in
+    let a = slotOf ACTOR-FACTOR target in
     let n = neither (leb ANY-TAG tag) (ltb PAYLOAD-MOST (length payload)) (p .1 .0) in
     let e = held (isActor s target) (p .1 .1 .0) in
     let t = leb-false ANY-TAG tag (n .0) in
     let m : message (actorId s a) (runnerId s) (classOf (packed 0 0 tag)) (tagOf (packed 0 0 tag)) payload ≡ message target (l .people .running) 0 tag payload =
-    same-message payload (sym (live-is 64 (s STATE) (s AGE) target (lit< tt) e)) (sym (running-is k s g l r (p .0))) (class-packed 0 0 tag (omega arith) (omega arith)) (tag-packed 0 0 tag (omega arith) (omega arith)) in
+    same-message payload (sym (live-is ACTOR-FACTOR (s STATE) (s AGE) target (lit< tt) e)) (sym (running-is k s g l r (p .0))) (class-packed 0 0 tag (omega arith) (omega arith)) (tag-packed 0 0 tag (omega arith) (omega arith)) in
     subst (λ (m : Message). Agrees k (sent (m ∷ []) l) (post k s a (runnerId s) (packed 0 0 tag) payload)) m
-    (post-agrees k s l a g r (alive-of (s STATE) a (of-live 64 (s STATE) (s AGE) target e .0)) (runnerId s) (packed 0 0 tag) payload (held (hasRoom k s) (p .1 .1 .1 .0))
+    (post-agrees k s l a g r (alive-of (s STATE) a (of-live ACTOR-FACTOR (s STATE) (s AGE) target e .0)) (runnerId s) (packed 0 0 tag) payload (held (hasRoom k s) (p .1 .1 .1 .0))
     (notify-fine k s (runner s - 1) tag payload g (runner-alive k s g (p .0)) t (ltb-false PAYLOAD-MOST (length payload) (n .1))))
 
 -- ---- room
@@ -357,15 +358,17 @@ module _ (k : Caps) (s : State) (l : Ledger) (g : Good k s) (r : Agrees k l s) w
       both true b = refl
       both false b = refl
 
-  -- THE THEOREM: notify answers 2 exactly where the reckoning says that it is short of room
-  pub notify-short : (target tag : ℕ) (payload : List ℕ) → says (λ n. n) 2 (notifyEntry target tag payload .tests k s) ≡ short l (op (notify target tag payload))
-  notify-short target tag payload =
-      rw (← idle-same k s g l r, ← known-same k s g l r target)
-      (split (eqb (runner s) 0) (λ q. rw q)
-      (λ q. split (leb ANY-TAG tag) (λ b. rw (q, b, le-ltb tag ANY-TAG (leb-true ANY-TAG tag b)))
-      (λ b. split (ltb PAYLOAD-MOST (length payload)) (λ c. rw (q, b, c, lt-ltb tag ANY-TAG (leb-false ANY-TAG tag b), lt-leb (length payload) PAYLOAD-MOST (ltb-true PAYLOAD-MOST (length payload) c)))
-      (λ c. rw (q, b, c, lt-ltb tag ANY-TAG (leb-false ANY-TAG tag b), le-leb (length payload) PAYLOAD-MOST (ltb-false PAYLOAD-MOST (length payload) c))
-      (split (isActor s target) (λ e. rw (e, room-same) (split (eqb (mailsLeft l) 0 || eqb (datasLeft l) 0) (λ f. rw f) (λ f. rw f))) (λ e. rw e))))))
+-- its tests are the reckoning's
+pub notify-same : (target tag : ℕ) (payload : List ℕ) → Tested (notify target tag payload)
+notify-same target tag payload k s l g r = (
+  idle-same k s g l r,
+  refl,
+  λ h. (
+    refl,
+    refl,
+    λ q. (ap not (known-same k s g l r target), refl, λ u. (ap not (room-same k s l g r) ∙ not-not (eqb (mailsLeft l) 0 || eqb (datasLeft l) 0), refl, λ z. record {})),
+  ),
+)
 
 -- ---- a mailbox entry leaves
 module _ (k : Caps) (s : State) (l : Ledger) (g : Good k s) (r : Agrees k l s) (j : ℕ) (jl : j < at s ARRIVED 0) where
@@ -568,7 +571,7 @@ dropAll-steps : (m : ℕ) (k : Caps) (s : State) (l : Ledger) (a : ℕ) → Good
 unfolding dropAll butFirsts
 dropAll-steps zero k s l a g r there = r
 dropAll-steps (suc m) k s l a g r there =
-    let i : actorId (dropFirst s a) a ≡ actorId s a = ap (λ (c : List ℕ). idOf 64 (getD c a 0) a) (beside-dropFirst s a .cols AGE refl) in
+    let i : actorId (dropFirst s a) a ≡ actorId s a = ap (λ (c : List ℕ). idOf ACTOR-FACTOR (getD c a 0) a) (beside-dropFirst s a .cols AGE refl) in
     let v : alive (dropFirst s a STATE) a ≡ true = ap (λ (c : List ℕ). alive c a) (beside-dropFirst s a .cols STATE refl) ∙ there in
     let l₁ : Ledger = withMail l (mail (butFirst (toId (actorId s a)) (l .mail .boxes)) (l .mail .hands)) in
     subst (λ (id : ℕ). Agrees k (withMail l (mail (butFirsts m (toId id) (butFirst (toId (actorId s a)) (l .mail .boxes))) (l .mail .hands))) (dropAll m (dropFirst s a) a)) i
@@ -659,6 +662,10 @@ received-agrees sender class tag wait k s l g r q =
     (receiveBare-agrees sender class tag wait k (letGo s a) (release l) a (letGo-keeps k s a g b) (letGo-agrees k s l g r q)
     (ap (λ (c : List ℕ). getD c 0 0) (wrote-letGo s a .cols RUNNING refl) ∙ omega arith) (letGo-empty k s a g b))
 
+-- its tests are the reckoning's
+pub receive-same : (sender class tag : ℕ) (wait : ℤ) → Tested (receive sender class tag wait)
+receive-same sender class tag wait k s l g r = (idle-same k s g l r, refl, λ h. (refl, refl, λ z. record {}))
+
 -- THE THEOREM of receive, and the reckoning
 pub receive-agrees : (sender class tag : ℕ) (wait : ℤ) → Agreed (receive sender class tag wait)
 receive-agrees sender class tag wait k s l g r p = received-agrees sender class tag wait k s l g r (p .0)
@@ -679,7 +686,7 @@ pub clear-agrees : (k : Caps) (s : State) (l : Ledger) (a : ℕ) → Good k s �
 unfolding cleared
 clear-agrees k s l a g r there =
     let n : a < k .actors = omega (arith, alive-below (s STATE) a there, g .sized .words STATE (lit< tt)) in
-    let i : actorId (letGo s a) a ≡ actorId s a = ap (λ (c : List ℕ). idOf 64 (getD c a 0) a) (wrote-letGo s a .cols AGE refl) in
+    let i : actorId (letGo s a) a ≡ actorId s a = ap (λ (c : List ℕ). idOf ACTOR-FACTOR (getD c a 0) a) (wrote-letGo s a .cols AGE refl) in
     let v : alive (letGo s a STATE) a ≡ true = ap (λ (c : List ℕ). alive c a) (wrote-letGo s a .cols STATE refl) ∙ there in
     let m : at (letGo s a) ARRIVED 0 ≡ at s ARRIVED 0 = ap (λ (c : List ℕ). getD c 0 0) (letGo-arrived s a) in
     subst (λ (m : ℕ). Agrees k (boxless (actorId s a) (handless (actorId s a) l)) (dropAll m (letGo s a) a)) m

@@ -1,5 +1,5 @@
 -- A timer that fires: it is the soonest that is due, it ends or is due again, soundness is kept and the reckoning says the same. Assumes nothing.
-use Prim.Native.Nat.{ℕ, _+_, _-_, _%_, _^_, _≤_, _<_}
+use Prim.Native.Nat.{ℕ, _+_, _-_, _%_, _≤_, _<_}
 use native.Mathlib.Omega.{arith}
 use mathlib.Core.Path.{_≡_, refl, sym, ap, ap₂, subst, _∙_}
 use mathlib.Core.Bool.{Bool, true, false, cond, not, _&&_, _||_}
@@ -15,6 +15,7 @@ use Rattle.pools.proofs.BoolLaws.{split, and-left, and-right, and-true}
 use Rattle.pools.proofs.SlotLaws.{slot-of-id}
 use Rattle.tables.specs.declared.Caps.{Caps}
 use Rattle.tables.specs.Columns.{CLOCK, DUE, INTERVAL, TIMER-AGE, TIMER-OWNER}
+use Rattle.tables.specs.Limits.{DUE-END, TIMER-FACTOR}
 use Rattle.tables.specs.State.{InRange, State, at, head, with-col, poke}
 use Rattle.tables.proofs.ViewLaws.{Sized}
 use Rattle.rules.specs.Rule.{Holds}
@@ -29,7 +30,7 @@ use Rattle.rules.proofs.LedgerLaws.{first-map, map-same-on, some-map, s
 use Rattle.rules.proofs.TieLaws.{id-eqb}
 use Rattle.rules.proofs.LeastLaws.{Least, before, first-none, first-one, first-same-on, least-is, other-before}
 use Rattle.rules.proofs.Frame.{wrote-none, wrote-poke, wrote-within}
-use Rattle.rules.proofs.Part
+use Rattle.rules.proofs.Groups as Part
 use Rattle.rules.proofs.Patch.{_by_also_, done, patch}
 use Rattle.rules.proofs.Frames.{TIMED}
 use Rattle.rules.proofs.Ties.{disarm-keeps}
@@ -37,7 +38,7 @@ use Rattle.rules.proofs.TiesAgree.{clock-used, disarm-agree, timers-agr
 
 -- ---- soundness
 -- a timer is due at another time
-pub redue-keeps : (k : Caps) (s : State) (i t : ℕ) → Good k s → i < k .timers → (at s TIMER-OWNER i ≡ 0 → ⊥) → t ≤ 2 ^ 62 + 2 ^ 32 → Good k (poke s DUE i t)
+pub redue-keeps : (k : Caps) (s : State) (i t : ℕ) → Good k s → i < k .timers → (at s TIMER-OWNER i ≡ 0 → ⊥) → t ≤ DUE-END → Good k (poke s DUE i t)
 unfolding poke with-col
 redue-keeps k s i t g l u h =
     patch k g (wrote-poke (wrote-none s) DUE i t) (Part.timers by
@@ -82,7 +83,7 @@ module _ (k : Caps) (l : Ledger) (s : State) (z : Sized k s) (v : InRange k) (a 
     where
       same : (e : ℕ) → 0 < occurs e (a .time .clocks) → cond (eqb (timerId s e) (timerId s i)) (timer (timerId s e) (timerAt s e .owner) (c + at s INTERVAL e) (at s INTERVAL e)) (timerAt s e) ≡ timerAt (poke s DUE i (c + at s INTERVAL i)) e
       same e o =
-          rw (id-eqb 64 (s TIMER-AGE) e i (omega (arith, v .fewTimers, clock-used k l s s z v a e o .1)) (omega (arith, v .fewTimers)))
+          rw (id-eqb TIMER-FACTOR (s TIMER-AGE) e i (omega (arith, v .fewTimers, clock-used k l s s z v a e o .1)) (omega (arith, v .fewTimers)))
           (each-set (λ e. cond (eqb e i) (timer (timerId s e) (timerAt s e .owner) (c + at s INTERVAL e) (at s INTERVAL e)) (timerAt s e) ≡ timerAt (poke s DUE i (c + at s INTERVAL i)) e) i e
           (rw (eq-eqb i i refl, getD-set-same (s DUE) i (c + at s INTERVAL i) 0 (omega (arith, z .words DUE (lit< tt)))))
           (λ q. rw (q, other (s DUE) i (c + at s INTERVAL i) e q)))
@@ -100,8 +101,8 @@ module _ (k : Caps) (l : Ledger) (s : State) (z : Sized k s) (v : InRange k) (a 
   -- of two timers, the tables' and the reckoning's say which comes before
   sooner-same : (d e : ℕ) → d < k .timers → e < k .timers → sooner (timerAt s d) (timerAt s e) ≡ before (at s DUE d) (at s DUE e) d e
   sooner-same d e m n =
-      let x : timerId s d % 64 ≡ d = slot-of-id 64 (at s TIMER-AGE d) d (omega (arith, v .fewTimers)) in
-      let y : timerId s e % 64 ≡ e = slot-of-id 64 (at s TIMER-AGE e) e (omega (arith, v .fewTimers)) in
+      let x : timerId s d % TIMER-FACTOR ≡ d = slot-of-id TIMER-FACTOR (at s TIMER-AGE d) d (omega (arith, v .fewTimers)) in
+      let y : timerId s e % TIMER-FACTOR ≡ e = slot-of-id TIMER-FACTOR (at s TIMER-AGE e) e (omega (arith, v .fewTimers)) in
       ap₂ (λ (i : ℕ) (j : ℕ). ltb (at s DUE d) (at s DUE e) || (eqb (at s DUE d) (at s DUE e) && ltb i j)) x y
 
   -- a timer of the list is due where its time has come

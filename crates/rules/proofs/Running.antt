@@ -18,10 +18,11 @@ use Rattle.pools.proofs.SlotLaws.{of-usable}
 use Rattle.ledger.specs.Call.Op.{spawn, next, yield}
 use Rattle.tables.specs.declared.Caps.{Caps}
 use Rattle.tables.specs.Columns.{AGE, DEADLINE, MAIL-DATA, MAIL-FREE, MAIL-OWNER, PRIORITY, QUEUE, QUEUED, REASON, REST, RUNNING, STATE, WANT-CLASS, WANT-SENDER, WANT-TAG}
+use Rattle.tables.specs.Limits.{ACTOR-FACTOR, LEVELS, OLDEST}
 use Rattle.tables.specs.State.{State, at, head, with-col, poke, size}
 use Rattle.tables.specs.Action.{push, pull}
 use Rattle.rules.specs.Rule.{both, eq, Holds, imp, is}
-use Rattle.rules.specs.Terms.{FREE, OLDEST, RUNNABLE, RUNS, WAITS, alive, awaits, runner}
+use Rattle.rules.specs.Terms.{FREE, RUNNABLE, RUNS, WAITS, alive, awaits, runner}
 use Rattle.rules.specs.Sound.{actorRule, endsRule, idleRule, pairRule, runRule, senderRule, waitRule}
 use Rattle.rules.specs.Actions.{halt, ready, unwait, wake}
 use Rattle.rules.specs.Calls.{firstHead, run, slotFor}
@@ -30,7 +31,7 @@ use Rattle.rules.proofs.Frame.{wrote-none, wrote-poke}
 use Rattle.rules.proofs.Frames.{wrote-ready, wrote-run, wrote-unwait}
 use Rattle.rules.proofs.Good.{Good}
 use Rattle.rules.proofs.GuardLaws.{held}
-use Rattle.rules.proofs.Part
+use Rattle.rules.proofs.Groups as Part
 use Rattle.rules.proofs.Patch.{_by_also_, done, patch, patch-living}
 use Rattle.rules.proofs.ColumnLaws.{Listed, Once, alive-grows, alive-same, each-set, listed-at, listed-joins, listed-leaves, listed-room, once-joins, once-leaves, other, set-zero}
 use Rattle.rules.proofs.LedgerLaws.{runner-runs}
@@ -110,11 +111,11 @@ sender-later ages a class sender l h = (
   h .0,
   λ d. (
     h .1 d .0,
-    split (eqb (slotOf 64 sender) a)
-        (λ q. let r : slotOf 64 sender ≡ a = eqb-true (slotOf 64 sender) a q in
-        let c : ageOf 64 sender ≤ getD ages a 0 = rw r at (h .1 d .1) in
+    split (eqb (slotOf ACTOR-FACTOR sender) a)
+        (λ q. let r : slotOf ACTOR-FACTOR sender ≡ a = eqb-true (slotOf ACTOR-FACTOR sender) a q in
+        let c : ageOf ACTOR-FACTOR sender ≤ getD ages a 0 = rw r at (h .1 d .1) in
         rw (r, getD-set-same ages a (getD ages a 0 + 1) 0 l) (omega arith))
-        (λ q. rw (other ages a (getD ages a 0 + 1) (slotOf 64 sender) q) (h .1 d .1)),
+        (λ q. rw (other ages a (getD ages a 0 + 1) (slotOf ACTOR-FACTOR sender) q) (h .1 d .1)),
   ),
 )
 
@@ -233,6 +234,6 @@ run-keeps k s a j g e h c =
 -- "Next takes the head of the first non-empty level": sound as before
 pub next-keeps : Keeps next
 next-keeps k s g p =
-    split (ltb (firstHead s 4) (head s QUEUED))
-    (λ q. rw q (run-keeps k s (at s QUEUE (firstHead s 4)) (firstHead s 4) g refl (ltb-true (firstHead s 4) (head s QUEUED) q) (eqb-true (runner s) 0 (held (eqb (runner s) 0) (p .0)))))
+    split (ltb (firstHead s LEVELS) (head s QUEUED))
+    (λ q. rw q (run-keeps k s (at s QUEUE (firstHead s LEVELS)) (firstHead s LEVELS) g refl (ltb-true (firstHead s LEVELS) (head s QUEUED) q) (eqb-true (runner s) 0 (held (eqb (runner s) 0) (p .0)))))
     (λ q. rw q g)

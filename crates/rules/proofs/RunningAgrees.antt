@@ -7,8 +7,8 @@ use mathlib.Core.List.{List, [], _∷_, _++_, map, map-append}
 use lib.ListN.{length, getD, set}
 use lib.Seq.{getD-set-same, getD-set-other}
 use lib.Dec.{eqb, ltb, lit<}
-use borrow.Author.Tests.{eqb-true, ne-eqb, ltb-true, ltb-false, le-leb, lt-leb, not-true}
-use Rattle.ledger.specs.Call.Op.{next, spawn, yield}
+use borrow.Author.Tests.{eqb-true, ne-eqb, ltb-true, not-true}
+use Rattle.ledger.specs.Call.Op.{next, shown, spawn, yield}
 use Rattle.ledger.specs.Ledger.{Actor, Ledger, Message, people, withPeople}
 use Rattle.ledger.specs.Lists.{first}
 use Rattle.ledger.specs.Reckon.{entered, runs}
@@ -19,20 +19,21 @@ use Rattle.pools.proofs.BoolLaws.{split, true-false}
 use Rattle.pools.proofs.ExactLaws.{exact-put, exact-same, exact-used}
 use Rattle.tables.specs.declared.Caps.{Caps}
 use Rattle.tables.specs.Columns.{AGE, HAND, LINK-ONE, LINK-TWO, MAIL-OWNER, PRIORITY, QUEUE, QUEUED, RUNNING, STATE, TIMER-OWNER, WATCHED, WATCHER}
+use Rattle.tables.specs.Limits.{ACTOR-FACTOR, LEVELS, OLDEST}
 use Rattle.tables.specs.State.{State, at, head, with-col, poke}
 use Rattle.tables.specs.Action.{push, pull}
-use Rattle.rules.specs.Terms.{FREE, OLDEST, RUNNABLE, RUNS, WAITS, actorId, alive, runner}
+use Rattle.rules.specs.Terms.{FREE, RUNNABLE, RUNS, WAITS, actorId, alive, runner}
 use Rattle.rules.specs.Agrees.{Agrees, actorAt, arrivals, boxAt, handAt, isWorn, linkAt, monitorAt, timerAt}
 use Rattle.rules.specs.Actions.{halt, ready, unwait, wake}
-use Rattle.rules.specs.Calls.{firstHead, reportRule, ruled, run, showRule, slotFor}
+use Rattle.rules.specs.Calls.{firstHead, reportEntry, ruled, run, showEntry, slotFor}
 use Rattle.rules.proofs.AgreeLaws.{agrees-people, agrees-still, living}
-use Rattle.rules.proofs.Claims.{Agreed, Short}
+use Rattle.rules.proofs.Claims.{Agreed, Tested}
 use Rattle.rules.proofs.Frame.{wrote-none, wrote-poke}
 use Rattle.rules.proofs.Frames.{wrote-ready, wrote-run, wrote-unwait}
 use Rattle.rules.proofs.Good.{Good}
 use Rattle.rules.proofs.GuardLaws.{held}
 use Rattle.rules.proofs.ColumnLaws.{alive-begins, alive-free, alive-other, alive-same, of-alive, other, set-zero, worn-same}
-use Rattle.rules.proofs.LedgerLaws.{actors-left, bond-ends, box-owner, clock-owner, datas-left, eye-ends, first-map, first-none, first-only, id-eqb, id-not-zero, links-left, mails-left, map-same-on, monitors-left, palm-owner, room-same, runner-alive, runner-runs, running-is, timers-left}
+use Rattle.rules.proofs.LedgerLaws.{actors-left, bond-ends, box-owner, clock-owner, datas-left, eye-ends, first-map, first-none, first-only, full-same, hand-same, id-eqb, id-not-zero, idle-same, links-left, mails-left, map-same-on, monitors-left, palm-owner, runner-alive, runner-runs, running-is, timers-left}
 use Rattle.rules.proofs.Running.{queue-at, slot-found}
 
 -- ---- the actions: the reckoning says who is alive and who runs, and not who waits
@@ -69,7 +70,7 @@ module _ (k : Caps) (s : State) (l : Ledger) (g : Good k s) (r : Agrees k l s) (
   level-there b e = getD-set-other (s PRIORITY) a b priority 0 (λ q. of-alive (s STATE) b e (ap (λ (c : ℕ). at s STATE c) q ∙ u))
 
   -- the new one is listed, and the rest of the reckoning is as before
-  born-agrees : Agrees k (withPeople l (people (l .people .live ++ (record { id = idOf 64 (at s AGE a + 1) a; priority = priority } ∷ [])) (l .people .running) (l .people .worn)))
+  born-agrees : Agrees k (withPeople l (people (l .people .live ++ (record { id = idOf ACTOR-FACTOR (at s AGE a + 1) a; priority = priority } ∷ [])) (l .people .running) (l .people .worn)))
       (ready (poke (poke s AGE a (at s AGE a + 1)) PRIORITY a priority) a 0)
   unfolding ready push poke with-col
   born-agrees =
@@ -129,20 +130,25 @@ spawn-agrees priority k s l g r p =
     let f = slot-found k s h in
     born-agrees k s l g r (slotFor k s) priority h (f .0) (f .1)
 
--- "no room" exactly when no actor slot is left
-pub spawn-short : (priority : ℕ) → Short (spawn priority)
-spawn-short priority k s l g r =
-    let e = room-same (usable OLDEST (s STATE) (s AGE)) (k .actors) (actorsLeft l) (actors-left k s g l r) in
-    split (ltb 3 priority)
-    (λ q. rw (q, lt-leb priority 3 (ltb-true 3 priority q)))
-    (λ q. rw (q, le-leb priority 3 (ltb-false 3 priority q), e) (split (eqb (actorsLeft l) 0) (λ c. rw c) (λ c. rw c)))
+-- its tests are the reckoning's: "no room" exactly when no actor slot is left
+pub spawn-same : (priority : ℕ) → Tested (spawn priority)
+spawn-same priority k s l g r = (refl, refl, λ q. (full-same (usable OLDEST (s STATE) (s AGE)) (k .actors) (actorsLeft l) (actors-left k s g l r), refl, λ z. record {}))
 
 -- ---- yield: nobody runs
+-- its test is the reckoning's
+pub yield-same : Tested yield
+yield-same k s l g r = (idle-same k s g l r, refl, λ z. record {})
+
+-- and so is who runs after it
 pub yield-agrees : Agreed yield
 unfolding entered poke with-col
 yield-agrees k s l g r p = ready-agrees k (halt s) (runs 0 l) (runner s - 1) 0 (λ e. omega (arith, runner-runs k s g (p .0) .1)) (halt-agrees k s l r)
 
 -- ---- next: the one whose id was answered runs
+-- its test is the reckoning's
+pub next-same : Tested next
+next-same k s l g r = (ap not (idle-same k s g l r), refl, λ z. record {})
+
 run-agrees : (k : Caps) (s : State) (l : Ledger) (a j : ℕ) → j < head s QUEUED → Good k s → (at s STATE a ≡ 0 → ⊥) → Agrees k l s → Agrees k (runs (actorId s a) l) (run s a j)
 unfolding run pull poke with-col
 run-agrees k s l a j h g u r =
@@ -161,18 +167,22 @@ run-agrees k s l a j h g u r =
 pub next-agrees : Agreed next
 unfolding entered
 next-agrees k s l g r h =
-    split (ltb (firstHead s 4) (head s QUEUED))
-    (λ p. let c = queue-at k s g (firstHead s 4) (ltb-true (firstHead s 4) (head s QUEUED) p) in
-    rw p (run-agrees k s l (at s QUEUE (firstHead s 4)) (firstHead s 4) (ltb-true (firstHead s 4) (head s QUEUED) p) g (λ e. omega (arith, c .1)) r))
+    split (ltb (firstHead s LEVELS) (head s QUEUED))
+    (λ p. let c = queue-at k s g (firstHead s LEVELS) (ltb-true (firstHead s LEVELS) (head s QUEUED) p) in
+    rw p (run-agrees k s l (at s QUEUE (firstHead s LEVELS)) (firstHead s LEVELS) (ltb-true (firstHead s LEVELS) (head s QUEUED) p) g (λ e. omega (arith, c .1)) r))
     (λ p. rw p r)
 
 -- "the six free counts side by side, in the order of the pool table, worn slots not counted": what the reckoning has left
 pub report-counts : (k : Caps) (s : State) (l : Ledger) → Good k s → Agrees k l s
-    → reportRule k s .ans .free ≡ actorsLeft l ∷ mailsLeft l ∷ datasLeft l ∷ linksLeft l ∷ monitorsLeft l ∷ timersLeft l ∷ []
+    → ruled reportEntry k s .ans .free ≡ actorsLeft l ∷ mailsLeft l ∷ datasLeft l ∷ linksLeft l ∷ monitorsLeft l ∷ timersLeft l ∷ []
 unfolding ruled
 report-counts k s l g r = rw (actors-left k s g l r, mails-left k s g l r, datas-left k s g l r, links-left k s g l r, monitors-left k s g l r, timers-left k s g l r)
 
 -- ---- what is shown
+-- the tests of showing, by either call, are the reckoning's
+pub shown-same : Tested shown
+shown-same k s l g r = (idle-same k s g l r, refl, λ h. (hand-same k s g l r h, refl, λ z. record {}))
+
 -- the bytes of a message, and none where there is no message
 abbrev pub bytesOf : List Message → List ℕ
 bytesOf [] = []
@@ -209,7 +219,7 @@ module _ (k : Caps) (s : State) (l : Ledger) (g : Good k s) (r : Agrees k l s) w
         (ap (map (handAt s)) (first-only (λ a. eqb (actorId s a) (actorId s (runner s - 1))) (r .mail .palms) (runner s - 1) (r .mail .allPalms (runner s - 1) ∙ rw p) hand-own))
 
   -- "The payload in hand is shown": what is shown are the bytes of the message that the reckoning has in the caller's hand
-  pub show-hand : showRule k s .ans ≡ bytesOf (inHand l)
+  pub show-hand : ruled showEntry k s .ans ≡ bytesOf (inHand l)
   unfolding ruled
   show-hand =
       split (eqb (runner s) 0) (λ q. rw (q, hand-idle q))

@@ -10,10 +10,12 @@ use lib.Dec.{ltb, leb}
 use borrow.Author.Tests.{ne-eqb, lt-ltb, le-ltb, ltb-true, ltb-false, leb-true}
 use Rattle.ledger.specs.Ledger.{nothing}
 use Rattle.pools.specs.Pool.{occurs}
-use Rattle.pools.specs.Bits.{bit, free}
+use Rattle.pools.specs.Bits.{bit, free, WORD-BITS}
 use Rattle.pools.proofs.BoolLaws.{split, true-false, and-left, and-right}
 use Rattle.tables.specs.declared.Caps.{Caps}
 use Rattle.tables.specs.Columns.{ACTORS, DATA-FREE, DATAS, LINKS, MAIL-FREE, MAILS, MONITORS, PAST, PAYLOAD, REST, TIMERS}
+use Rattle.tables.specs.Sizes.{BIT-WORDS, COLUMN-BITS, SPARES}
+use Rattle.tables.specs.Limits.{ENTRY-BYTES}
 use Rattle.tables.specs.State.{State, capsOf, head, view, InRange, Room, needed, neededP, size, sizes, with-col, poke}
 use Rattle.tables.proofs.ViewLaws.{Sized, sized-view}
 use Rattle.rules.specs.Rule.{Holds, test}
@@ -59,17 +61,17 @@ four-at n (suc (suc (suc zero))) l = refl
 four-at n (suc (suc (suc (suc q)))) l = absurd (omega arith)
 
 -- entry e of n is free, and no other bit is set
-pub four-free : (n e : ℕ) → n ≤ 256 → free (four n) e ≡ ltb e n
+pub four-free : (n e : ℕ) → n ≤ COLUMN-BITS → free (four n) e ≡ ltb e n
 four-free n e h =
     split (ltb e n)
     (λ q. let l = ltb-true e n q in
-    let b : e / 64 < 4 = omega arith in
-    rw (q, four-at n (e / 64) b, ones-set (min 64 (n - 64 * (e / 64))) (e % 64) (omega arith)))
+    let b : e / WORD-BITS < BIT-WORDS = omega arith in
+    rw (q, four-at n (e / WORD-BITS) b, ones-set (min WORD-BITS (n - WORD-BITS * (e / WORD-BITS))) (e % WORD-BITS) (omega arith)))
     (λ q. let l = ltb-false e n q in
-    split (ltb (e / 64) 4)
-    (λ r. let b = ltb-true (e / 64) 4 r in
-    rw (q, four-at n (e / 64) b, ones-clear (min 64 (n - 64 * (e / 64))) (e % 64) (omega arith)))
-    (λ r. let z : getD (four n) (e / 64) 0 ≡ 0 = List·getD-eq-default (four n) 0 (ltb-false (e / 64) 4 r) in rw (q, z, bit-none (e % 64))))
+    split (ltb (e / WORD-BITS) BIT-WORDS)
+    (λ r. let b = ltb-true (e / WORD-BITS) BIT-WORDS r in
+    rw (q, four-at n (e / WORD-BITS) b, ones-clear (min WORD-BITS (n - WORD-BITS * (e / WORD-BITS))) (e % WORD-BITS) (omega arith)))
+    (λ r. let z : getD (four n) (e / WORD-BITS) 0 ≡ 0 = List·getD-eq-default (four n) 0 (ltb-false (e / WORD-BITS) BIT-WORDS r) in rw (q, z, bit-none (e % WORD-BITS))))
 
 -- ---- zeros
 zero-at : (n i : ℕ) → _≡_ {A = ℕ} (getD (replicate n 0) i 0) 0
@@ -129,7 +131,7 @@ module _ (k : Caps) (s : State) (r : InRange k) (z : Sized k s) where
     sized = fresh-sized;
     caps = ((refl, (refl, refl)), (refl, (refl, refl)));
     head = ((omega arith, omega arith), (omega arith, omega arith));
-    spare = spare;
+    spare = λ i l. zero-at SPARES i;
     mailBits = λ e l m. rw (four-free (k .mails) e (r .fewMails), le-ltb e (k .mails) m);
     dataBits = λ e l m. rw (four-free (k .datas) e (r .fewDatas), le-ltb e (k .datas) m);
     actors = λ a l. simp zero-at ((omega arith, (omega arith, omega arith)), ((omega arith, λ e. refl), omega arith));
@@ -143,7 +145,7 @@ module _ (k : Caps) (s : State) (r : InRange k) (z : Sized k s) where
     arrived = λ e l. rw (mail-free e l);
     filters = λ e l h. true-false (not (free (f MAIL-FREE) e)) (h .0) (rw (mail-free e l));
     datas = λ d l. (
-      λ h. ((zero-at (k .datas) d, zero-at (k .datas) d), λ i m. zero-at (neededP k) (256 * d + i)),
+      λ h. ((zero-at (k .datas) d, zero-at (k .datas) d), λ i m. zero-at (neededP k) (ENTRY-BYTES * d + i)),
       λ h. true-false (not (free (f DATA-FREE) d)) h (rw (data-free d l)),
     );
     held = λ d l. rw (data-free d l, zero-occurs (k .mails) d, zero-occurs (k .actors) d);
@@ -152,15 +154,6 @@ module _ (k : Caps) (s : State) (r : InRange k) (z : Sized k s) where
     monitors = λ i l. simp zero-at ((omega arith, λ h. absurd (h refl)), (λ h. refl, λ h. absurd (h refl)));
     timers = λ i l. simp zero-at ((omega arith, λ h. absurd (h refl)), (λ h. (refl, refl), λ h. absurd (h refl)));
   }
-    where
-      spare : (i : ℕ) → i < 6 → head f (10 + i) ≡ 0
-      spare zero l = refl
-      spare (suc zero) l = refl
-      spare (suc (suc zero)) l = refl
-      spare (suc (suc (suc zero))) l = refl
-      spare (suc (suc (suc (suc zero)))) l = refl
-      spare (suc (suc (suc (suc (suc zero))))) l = refl
-      spare (suc (suc (suc (suc (suc (suc i)))))) l = absurd (omega arith)
 
   -- THE THEOREM: a fresh start holds nothing
   pub fresh-agrees : Agrees k (nothing (sizesOf k)) f

@@ -19,21 +19,22 @@ use Rattle.pools.proofs.BoolLaws.{and-left, and-right, split, true-false}
 use Rattle.pools.proofs.SlotLaws.{live-id}
 use Rattle.tables.specs.declared.Caps.{Caps}
 use Rattle.tables.specs.Columns.{AGE, LINK-ONE, LINK-TWO, MAIL-OWNER, STATE, TIMER-OWNER, WATCHED, WATCHER}
+use Rattle.tables.specs.Limits.{ACTOR-FACTOR, ANY-TAG, LAST-REASON, PAYLOAD-MOST}
 use Rattle.tables.specs.State.{State, at, capsOf, joinP, joinW}
 use Rattle.tables.proofs.ViewLaws.{join-view}
-use Rattle.rules.specs.Terms.{ANY-TAG, PAYLOAD-MOST, actorId, alive, isActor, runner, runnerId}
+use Rattle.rules.specs.Terms.{actorId, alive, isActor, runner, runnerId}
 use Rattle.rules.specs.Rule.{Holds}
 use Rattle.rules.specs.Sound.{soundRule, viewOf}
-use Rattle.rules.specs.Calls.{Out, exitRule, ruled}
-use Rattle.rules.specs.Run.{step}
-use Rattle.rules.specs.Story.{Aims, Begun, Meets, Promised, Story, begins, capsFrom, startless}
+use Rattle.rules.specs.Calls.{exitEntry, refusal, ruled}
+use Rattle.rules.specs.Run.{entry, step}
+use Rattle.rules.specs.Story.{Aims, Begun, Meets, Story, begins, capsFrom, startless}
 use Rattle.rules.specs.Agrees.{Agrees, arrivals, boxAt, handAt, linkAt, monitorAt, timerAt}
 use Rattle.rules.proofs.ColumnLaws.{of-alive}
 use Rattle.rules.proofs.Departed.{Nothing}
 use Rattle.rules.proofs.Exit.{exit-leaves-nothing}
 use Rattle.rules.proofs.Good.{Good}
 use Rattle.rules.proofs.Keep.{good-view, host-keeps}
-use Rattle.rules.proofs.LedgerLaws.{alive-slot, bond-ends, box-owner, clock-owner, eye-ends, id-not-zero, known-same, palm-owner, runner-alive, running-is, some-map, some-no}
+use Rattle.rules.proofs.LedgerLaws.{alive-slot, bond-ends, box-owner, clock-owner, eye-ends, id-not-zero, known-same, palm-owner, runner-alive, running-is, some-map, some-no, stranger}
 use Rattle.rules.proofs.Over.{Over, over-once, over-stays}
 use Rattle.rules.proofs.Start.{start-refused}
 use Rattle.rules.proofs.Story.{Kept, line, line-kept, story-kept}
@@ -62,11 +63,7 @@ unaimed-nothing id l u e = record { boxes = u .boxes; hands = u .hands; timers =
 module _ (k : Caps) (s : State) (l : Ledger) (g : Good k s) (r : Agrees k l s) (id : ℕ) where
   -- a live slot is another actor's
   another : known l id ≡ false → (a : ℕ) → alive (s STATE) a ≡ true → eqb (actorId s a) id ≡ false
-  another n a v =
-      ne-eqb (actorId s a) id (λ z.
-      true-false (isActor s id)
-      (ap (isActor s) (sym z) ∙ live-id 64 (s STATE) (s AGE) a (omega (arith, alive-slot k s g a v, g .range .fewActors)) (of-alive (s STATE) a v))
-      (known-same k s g l r id ∙ n))
+  another n = stranger k s g id (known-same k s g l r id ∙ n)
 
   -- THE LAW: at an id that is not that of a live actor nothing is aimed, since all that is in use is a live actor's
   pub nothing-aimed : (id ≡ 0 → ⊥) → known l id ≡ false → Unaimed id l
@@ -94,17 +91,12 @@ pub live-known : (l : Ledger) (w p : List ℕ) (id : ℕ) → Kept l w p → isA
 live-known l w p id h = known-same (capsOf w) (viewOf w p) (good-view w p (h .sound)) l (h .agrees) id
 
 -- ---- what the buffers hold after a line
--- after a promise kept on sound buffers: the rule's state, with the same capacities
-promised-state : {A : Type 0} (seven : A) (rule : Caps → State → Out A) (say : A → Answer) → ((k : Caps) (s : State) → Good k s → Good k (rule k s .state)) →
-    (w p : List ℕ) (r : Answer) (w′ p′ : List ℕ) → Promised seven rule say w p r w′ p′ → Holds (soundRule w p) →
-    (viewOf w′ p′ ≡ rule (capsOf w) (viewOf w p) .state) × (capsOf w′ ≡ capsOf w)
-promised-state seven rule say keeps w p r w′ p′ q h =
-    let x = host-keeps seven rule keeps w p (q .ans) w′ p′ (q .called) h in (x .2, x .3)
-
--- THE LAW: after a call that is no start the buffers hold the state that its rule leaves
+-- THE LAW: after a call that is no start the buffers hold the state that its rule leaves, with the same capacities
 pub line-state : (o : Op) (w p : List ℕ) (r : Answer) (w′ p′ : List ℕ) → Meets (op o) w p r w′ p′ → Holds (soundRule w p) →
     (viewOf w′ p′ ≡ step o (capsOf w) (viewOf w p) .state) × (capsOf w′ ≡ capsOf w)
-line-state o = promised-state _ _ _ (step-keeps o)
+line-state o w p r w′ p′ q h =
+    let e = entry o in
+    let x = host-keeps (refusal (e .shape) 7) (ruled e) (step-keeps o) w p (q .ans) w′ p′ (q .called) h in (x .2, x .3)
 
 -- ---- an id that is over stays so
 -- after any call that is no start
@@ -139,20 +131,20 @@ story-over l id (Story.then {w} {p} {w₁} {p₁} {x = y} {xs} m s) n x o =
 runner-live : (k : Caps) (s : State) → Good k s → eqb (runner s) 0 ≡ false → isActor s (runnerId s) ≡ true
 runner-live k s g q =
     let there = runner-alive k s g q in
-    live-id 64 (s STATE) (s AGE) (runner s - 1) (omega (arith, alive-slot k s g (runner s - 1) there, g .range .fewActors)) (of-alive (s STATE) (runner s - 1) there)
+    live-id ACTOR-FACTOR (s STATE) (s AGE) (runner s - 1) (omega (arith, alive-slot k s g (runner s - 1) there, g .range .fewActors)) (of-alive (s STATE) (runner s - 1) there)
 
 -- an exit that answered 0: somebody ran, and the reason was well-formed
-exit-done : (reason : ℕ) (k : Caps) (s : State) → exitRule reason k s .ans .no ≡ 0 → (eqb (runner s) 0 ≡ false) × (reason ≤ 65535)
+exit-done : (reason : ℕ) (k : Caps) (s : State) → ruled (exitEntry reason) k s .ans .no ≡ 0 → (eqb (runner s) 0 ≡ false) × (reason ≤ LAST-REASON)
 unfolding ruled
 exit-done reason k s =
     split (eqb (runner s) 0) (λ q. rw q (λ e. absurd (omega arith)))
-    (λ q. split (ltb 65535 reason) (λ t. rw (q, t) (λ e. absurd (omega arith))) (λ t. rw (q, t) (λ e. (refl, ltb-false 65535 reason t))))
+    (λ q. split (ltb LAST-REASON reason) (λ t. rw (q, t) (λ e. absurd (omega arith))) (λ t. rw (q, t) (λ e. (refl, ltb-false LAST-REASON reason t))))
 
 -- its answer and its state are the rule's
-exit-no : (reason sent lost : ℕ) (k : Caps) (s : State) → ended 0 sent lost ≡ step (exit reason) k s .ans → exitRule reason k s .ans .no ≡ 0
+exit-no : (reason sent lost : ℕ) (k : Caps) (s : State) → ended 0 sent lost ≡ step (exit reason) k s .ans → ruled (exitEntry reason) k s .ans .no ≡ 0
 exit-no reason sent lost k s e = sym (ap number e)
 
-exit-once : (reason : ℕ) (k : Caps) (s : State) → isActor s (runnerId s) ≡ true → isActor (exitRule reason k s .state) (runnerId s) ≡ false → Over (step (exit reason) k s .state) (runnerId s)
+exit-once : (reason : ℕ) (k : Caps) (s : State) → isActor s (runnerId s) ≡ true → isActor (ruled (exitEntry reason) k s .state) (runnerId s) ≡ false → Over (step (exit reason) k s .state) (runnerId s)
 exit-once reason k s = over-once (exit reason) k s (runnerId s)
 
 -- the actor that ran is over

@@ -8,55 +8,46 @@ use mathlib.Core.List.{List, [], _∷_, _++_, map}
 use lib.ListN.{take}
 use lib.IntN.{ℤ}
 use lib.Dec.{eqb, ltb}
-use borrow.Author.Tests.{eq-eqb, eqb-true, ne-eqb}
-use Rattle.ledger.specs.Call.{Found, Op, Why, code, found, number, refuses, zeroed}
+use borrow.Author.Tests.{eq-eqb, eqb-false, eqb-true, ne-eqb}
+use Rattle.ledger.specs.Call.{Answer, Found, Op, Why, code, firstYes, found, number, numbered, refuses, zeroed}
 use Rattle.ledger.specs.Call.Call.{op}
 use Rattle.ledger.specs.Call.Found.{all, nothing, waits}
-use Rattle.ledger.specs.Call.Why.{malformed, full, unknown, moment}
+use Rattle.ledger.specs.Call.Why.{full}
 use Rattle.ledger.specs.Call.Op.{spawn, next, yield, notify, receive, show, shown, after, every, cancel, link, unlink, monitor, demonitor, exit, advance, report}
 use Rattle.ledger.specs.Ledger.{Ledger, Message}
-use Rattle.ledger.specs.Reckon.{cleared, departed, endLinks, endMonitors, endTimers, entered, gone, later, letGo as released, linked, message, notices, page, taken, ticks, wanted}
+use Rattle.ledger.specs.Reckon.{cleared, departed, endLinks, endMonitors, endTimers, entered, gone, later, letGo as released, linked, message, notices, page, short, taken, ticks, verdict, wanted}
+use Rattle.ledger.specs.Room.{holds, idle}
 use Rattle.pools.proofs.BoolLaws.{split, true-false}
 use Rattle.tables.specs.declared.Caps.{Caps}
 use Rattle.tables.specs.Columns.{AGE, ARRIVED, QUEUED}
+use Rattle.tables.specs.Limits.{LEVELS, LONGEST}
 use Rattle.tables.specs.State.{State, at, head}
-use Rattle.rules.specs.Terms.{LONGEST, runner}
+use Rattle.rules.specs.Terms.{runner}
 use Rattle.rules.specs.Actions.{letGo}
 use Rattle.rules.specs.Agrees.{Agrees}
-use Rattle.rules.specs.Calls.{Ans, Out, Shape, Test, firstHead, firstMatch, notAtAll, ordered, out, receiveBare, refusal, ruled}
+use Rattle.rules.specs.Calls.{Ans, Out, Shape, firstHead, firstMatch, notAtAll, ordered, out, receiveBare, refusal, ruled}
 use Rattle.rules.specs.Calls.Shape.{aNumber, anId, aTurn, aMessage, aPart, aPlace, anEnd, anAdvance, aReport}
-use Rattle.rules.specs.Run.{entry, numbers, say, step}
-use Rattle.rules.proofs.Advance.{advance-agrees, advance-keeps}
+use Rattle.rules.specs.Run.{entry, numbers, said, say, step}
+use Rattle.rules.proofs.Advance.{advance-agrees, advance-keeps, advance-same}
 use Rattle.rules.proofs.Ages.{spawn-ages, still}
 use Rattle.rules.proofs.CallFrames.{beside-advance, beside-arm, beside-cancel, beside-demonitor, beside-exit, beside-link, beside-monitor, beside-next, beside-notify, beside-receive, beside-unlink, beside-yield}
-use Rattle.rules.proofs.Claims.{Agreed, Keeps, Short, heard}
+use Rattle.rules.proofs.Claims.{Agreed, Keeps, Silent, Speaks, Tested}
 use Rattle.rules.proofs.Exit.{exit-keeps}
-use Rattle.rules.proofs.ExitAgrees.{exit-agrees}
+use Rattle.rules.proofs.ExitAgrees.{exit-agrees, exit-same}
 use Rattle.rules.proofs.Frame.{beside-still}
 use Rattle.rules.proofs.Good.{Good}
-use Rattle.rules.proofs.GuardLaws.{Passed, guarded-all, guarded-numbers, guarded-says, neither, oneOf, says}
+use Rattle.rules.proofs.GuardLaws.{Passed, found-well, guarded-all, guarded-heard, guarded-numbers, guarded-yes, oneOf, why-found, why-refuses}
 use Rattle.rules.proofs.Messages.{notify-keeps, receive-keeps}
-use Rattle.rules.proofs.MessagesAgree.{notify-agrees, notify-short, receive-agrees}
+use Rattle.rules.proofs.MessagesAgree.{notify-agrees, notify-same, receive-agrees, receive-same}
 use Rattle.rules.proofs.PageLaws.{Paged, fires-boxes, fires-people, more-some, quietly, those-some, within-all, within-but, within-end, within-more, within-those, Within}
 use Rattle.rules.proofs.Running.{next-keeps, spawn-keeps, yield-keeps}
-use Rattle.rules.proofs.RunningAgrees.{next-agrees, spawn-agrees, spawn-short, yield-agrees}
+use Rattle.rules.proofs.RunningAgrees.{next-agrees, next-same, shown-same, spawn-agrees, spawn-same, yield-agrees, yield-same}
+use Rattle.rules.proofs.SameTests.{same-first}
 use Rattle.rules.proofs.Ties.{after-keeps, cancel-keeps, demonitor-keeps, every-keeps, link-keeps, monitor-keeps, unlink-keeps}
-use Rattle.rules.proofs.TiesAgree.{after-agrees, after-short, cancel-agrees, demonitor-agrees, every-agrees, every-short, link-agrees, link-short, monitor-agrees, monitor-short, unlink-agrees}
+use Rattle.rules.proofs.TiesAgree.{after-agrees, after-same, cancel-agrees, cancel-same, demonitor-agrees, demonitor-same, every-agrees, every-same, link-agrees, link-same, monitor-agrees, monitor-same, unlink-agrees, unlink-same}
 
 -- ---- the shapes
--- it is the number, or 0 where the answer has none
-heard-is : (h : Shape) (n : ℕ) → (heard h n ≡ n) ⊎ (heard h n ≡ 0)
-heard-is aNumber n = inl refl
-heard-is anId n = inl refl
-heard-is aTurn n = inl refl
-heard-is aMessage n = inl refl
-heard-is aPart n = inr refl
-heard-is aPlace n = inl refl
-heard-is anEnd n = inl refl
-heard-is anAdvance n = inl refl
-heard-is aReport n = inl refl
-
--- zeros stand beside it
+-- zeros stand beside a refusal
 pub refusal-zeroed : (h : Shape) (n : ℕ) → say h (refusal h n) ≡ zeroed (say h (refusal h n))
 refusal-zeroed aNumber n = refl
 refusal-zeroed anId n = refl
@@ -76,35 +67,24 @@ pub record Proved (o : Op) : Type 0 where
   pub works : (k : Caps) (s : State) → oneOf (map found (entry o .works)) (number (say (entry o .shape) (entry o .work k s .ans))) ≡ true
   -- the work keeps a sound state sound
   pub keeps : Keeps o
-  -- and in step with the reckoning, which a refusal leaves as it is
+  -- and in step with the reckoning
   pub agrees : Agreed o
-  pub unmoved : (y : Why) (l : Ledger) → entered (record { call = op o; answer = say (entry o .shape) (refusal (entry o .shape) (code y)) }) l ≡ l
-  -- the first test that says yes is that for room exactly where the reckoning is short of it
-  pub two : Short o
+  -- its tests are the reckoning's
+  pub same : Tested o
+  -- its refusals are heard, or it is showing
+  pub speaks : Speaks o ⊎ Silent o
   -- no age falls
   pub ages : (k : Caps) (s : State) (a : ℕ) → at s AGE a ≤ at (entry o .work k s .state) AGE a
   -- its page
   pub page : Paged o
 
--- an answer that has a number
-speaks : (o : Op) → ((n : ℕ) → heard (entry o .shape) n ≡ n) → (y : Why) (l : Ledger) → entered (record { call = op o; answer = say (entry o .shape) (refusal (entry o .shape) (code y)) }) l ≡ l
-unfolding entered
-speaks o h malformed l = rw (h 1)
-speaks o h full l = rw (h 2)
-speaks o h unknown l = rw (h 3)
-speaks o h moment l = rw (h 4)
-
--- a call that needs no room: whatever its tests say, none is heard as 2
-no-room : (o : Op) → ((k : Caps) (s : State) → oneOf (map (λ (t : Test). heard (entry o .shape) (code (t .why))) (entry o .tests k s)) 2 ≡ false) → ((l : Ledger) → page o .short l ≡ false) →
-    (k : Caps) (s : State) (l : Ledger) → Good k s → Agrees k l s → says (heard (entry o .shape)) 2 (entry o .tests k s) ≡ page o .short l
-no-room o f h k s l g a = none (heard (entry o .shape)) (entry o .tests k s) (f k s) ∙ sym (h l)
-  where
-    none : (heard : ℕ → ℕ) (ts : List Test) → oneOf (map (λ (t : Test). heard (code (t .why))) ts) 2 ≡ false → says heard 2 ts ≡ false
-    none heard [] e = refl
-    none heard (t ∷ ts) e =
-        let n = neither (eqb 2 (heard (code (t .why)))) (oneOf (map (λ (t : Test). heard (code (t .why))) ts) 2) e in
-        split (t .says) (λ q. rw q (ne-eqb (heard (code (t .why))) 2 (λ z. true-false (eqb 2 (heard (code (t .why)))) (eq-eqb 2 (heard (code (t .why))) (sym z)) (n .0))))
-        (λ q. rw q (none heard ts (n .1)))
+-- showing: only its part, and "No other call needs any" room
+show-silent : Silent show
+show-silent = record {
+  mute = λ a. (refl, refl);
+  still = λ r l. refl;
+  roomy = λ l. split (idle l) (λ q. rw q) (λ q. rw q (split (holds l) (λ p. rw p) (λ p. rw p)));
+}
 
 -- receive finds its message, or nothing, or waits
 receive-works : (sender class tag : ℕ) (wait : ℤ) (a : ℕ) (s : State) → oneOf (map found (all ∷ nothing ∷ waits ∷ [])) (receiveBare sender class tag wait a s .ans .no) ≡ true
@@ -120,8 +100,8 @@ proved (spawn n) = record {
   works = λ k s. refl;
   keeps = spawn-keeps n;
   agrees = spawn-agrees n;
-  unmoved = speaks (spawn n) (λ m. refl);
-  two = spawn-short n;
+  same = spawn-same n;
+  speaks = inl (λ m. refl);
   ages = spawn-ages n;
   page = record {
     order = λ r l. within-end (within-all (l .mail .boxes));
@@ -132,11 +112,11 @@ proved (spawn n) = record {
 }
 proved next = record {
   inOrder = λ k s. refl;
-  works = λ k s. split (ltb (firstHead s 4) (head s QUEUED)) (λ q. rw q) (λ q. rw q);
+  works = λ k s. split (ltb (firstHead s LEVELS) (head s QUEUED)) (λ q. rw q) (λ q. rw q);
   keeps = next-keeps;
   agrees = next-agrees;
-  unmoved = speaks next (λ m. refl);
-  two = no-room next (λ k s. refl) (λ l. refl);
+  same = next-same;
+  speaks = inl (λ m. refl);
   ages = λ k s. still (beside-next k s) refl;
   page = quietly next (λ r l. (refl, refl, refl, refl));
 }
@@ -145,8 +125,8 @@ proved yield = record {
   works = λ k s. refl;
   keeps = yield-keeps;
   agrees = yield-agrees;
-  unmoved = speaks yield (λ m. refl);
-  two = no-room yield (λ k s. refl) (λ l. refl);
+  same = yield-same;
+  speaks = inl (λ m. refl);
   ages = λ k s. still (beside-yield k s) refl;
   page = quietly yield (λ r l. (refl, refl, refl, refl));
 }
@@ -155,8 +135,8 @@ proved (notify to tag payload) = record {
   works = λ k s. refl;
   keeps = notify-keeps to tag payload;
   agrees = notify-agrees to tag payload;
-  unmoved = speaks (notify to tag payload) (λ m. refl);
-  two = λ k s l g a. notify-short k s l g a to tag payload;
+  same = notify-same to tag payload;
+  speaks = inl (λ m. refl);
   ages = λ k s. still (beside-notify to tag payload k s) refl;
   page = record {
     order = λ r l. within-all (l .mail .boxes ++ (message to (l .people .running) 0 tag payload ∷ []));
@@ -170,8 +150,8 @@ proved (receive sender class tag wait) = record {
   works = λ k s. receive-works sender class tag wait (runner s - 1) (letGo s (runner s - 1));
   keeps = receive-keeps sender class tag wait;
   agrees = receive-agrees sender class tag wait;
-  unmoved = speaks (receive sender class tag wait) (λ m. refl);
-  two = no-room (receive sender class tag wait) (λ k s. refl) (λ l. refl);
+  same = receive-same sender class tag wait;
+  speaks = inl (λ m. refl);
   ages = λ k s. still (beside-receive sender class tag wait k s) refl;
   page = record {
     order = λ r l. within-end (within-but (wanted (l .people .running) sender class tag) (l .mail .boxes));
@@ -185,8 +165,8 @@ proved show = record {
   works = λ k s. refl;
   keeps = λ k s g p. g;
   agrees = λ k s l g a p. a;
-  unmoved = λ y l. refl;
-  two = no-room show (λ k s. refl) (λ l. refl);
+  same = shown-same;
+  speaks = inr show-silent;
   ages = λ k s. still (beside-still [] s) refl;
   page = quietly show (λ r l. (refl, refl, refl, refl));
 }
@@ -195,8 +175,8 @@ proved shown = record {
   works = λ k s. refl;
   keeps = λ k s g p. g;
   agrees = λ k s l g a p. a;
-  unmoved = speaks shown (λ m. refl);
-  two = no-room shown (λ k s. refl) (λ l. refl);
+  same = shown-same;
+  speaks = inl (λ m. refl);
   ages = λ k s. still (beside-still [] s) refl;
   page = quietly shown (λ r l. (refl, refl, refl, refl));
 }
@@ -205,8 +185,8 @@ proved (after n) = record {
   works = λ k s. refl;
   keeps = after-keeps n;
   agrees = after-agrees n;
-  unmoved = speaks (after n) (λ m. refl);
-  two = after-short n;
+  same = after-same n;
+  speaks = inl (λ m. refl);
   ages = λ k s. still (beside-arm n 0 (ltb LONGEST n) k s) refl;
   page = quietly (after n) (λ r l. (refl, refl, refl, refl));
 }
@@ -215,8 +195,8 @@ proved (every n) = record {
   works = λ k s. refl;
   keeps = every-keeps n;
   agrees = every-agrees n;
-  unmoved = speaks (every n) (λ m. refl);
-  two = every-short n;
+  same = every-same n;
+  speaks = inl (λ m. refl);
   ages = λ k s. still (beside-arm n n (eqb n 0 || ltb LONGEST n) k s) refl;
   page = quietly (every n) (λ r l. (refl, refl, refl, refl));
 }
@@ -225,8 +205,8 @@ proved (cancel id) = record {
   works = λ k s. refl;
   keeps = cancel-keeps id;
   agrees = cancel-agrees id;
-  unmoved = speaks (cancel id) (λ m. refl);
-  two = no-room (cancel id) (λ k s. refl) (λ l. refl);
+  same = cancel-same id;
+  speaks = inl (λ m. refl);
   ages = λ k s. still (beside-cancel id k s) refl;
   page = quietly (cancel id) (λ r l. (refl, refl, refl, refl));
 }
@@ -235,8 +215,8 @@ proved (link id) = record {
   works = λ k s. refl;
   keeps = link-keeps id;
   agrees = link-agrees id;
-  unmoved = speaks (link id) (λ m. refl);
-  two = link-short id;
+  same = link-same id;
+  speaks = inl (λ m. refl);
   ages = λ k s. still (beside-link id k s) refl;
   page = quietly (link id) (λ r l. split (linked l (l .people .running) id) (λ q. rw q (refl, refl, refl, refl)) (λ q. rw q (refl, refl, refl, refl)));
 }
@@ -245,8 +225,8 @@ proved (unlink id) = record {
   works = λ k s. refl;
   keeps = unlink-keeps id;
   agrees = unlink-agrees id;
-  unmoved = speaks (unlink id) (λ m. refl);
-  two = no-room (unlink id) (λ k s. refl) (λ l. refl);
+  same = unlink-same id;
+  speaks = inl (λ m. refl);
   ages = λ k s. still (beside-unlink id k s) refl;
   page = quietly (unlink id) (λ r l. (refl, refl, refl, refl));
 }
@@ -255,8 +235,8 @@ proved (monitor id) = record {
   works = λ k s. refl;
   keeps = monitor-keeps id;
   agrees = monitor-agrees id;
-  unmoved = speaks (monitor id) (λ m. refl);
-  two = monitor-short id;
+  same = monitor-same id;
+  speaks = inl (λ m. refl);
   ages = λ k s. still (beside-monitor id k s) refl;
   page = quietly (monitor id) (λ r l. (refl, refl, refl, refl));
 }
@@ -265,8 +245,8 @@ proved (demonitor id) = record {
   works = λ k s. refl;
   keeps = demonitor-keeps id;
   agrees = demonitor-agrees id;
-  unmoved = speaks (demonitor id) (λ m. refl);
-  two = no-room (demonitor id) (λ k s. refl) (λ l. refl);
+  same = demonitor-same id;
+  speaks = inl (λ m. refl);
   ages = λ k s. still (beside-demonitor id k s) refl;
   page = quietly (demonitor id) (λ r l. (refl, refl, refl, refl));
 }
@@ -275,8 +255,8 @@ proved (exit reason) = record {
   works = λ k s. refl;
   keeps = exit-keeps reason;
   agrees = exit-agrees reason;
-  unmoved = speaks (exit reason) (λ m. refl);
-  two = no-room (exit reason) (λ k s. refl) (λ l. refl);
+  same = exit-same reason;
+  speaks = inl (λ m. refl);
   ages = λ k s. still (beside-exit reason k s) refl;
   page = record {
     order = λ r l. within-more (take r (notices l (l .people .running) reason)) (within-those (λ m. not (eqb (m .to) (l .people .running))) (l .mail .boxes));
@@ -290,8 +270,8 @@ proved (advance micros) = record {
   works = λ k s. refl;
   keeps = advance-keeps micros;
   agrees = advance-agrees micros;
-  unmoved = speaks (advance micros) (λ m. refl);
-  two = no-room (advance micros) (λ k s. refl) (λ l. refl);
+  same = advance-same micros;
+  speaks = inl (λ m. refl);
   ages = λ k s. still (beside-advance micros k s) refl;
   page = record {
     order = λ r l. subst (λ (m : List Message). Within m (l .mail .boxes ++ ticks r (later micros l))) (sym (fires-boxes r (later micros l))) (within-all (l .mail .boxes ++ ticks r (later micros l)));
@@ -305,29 +285,35 @@ proved report = record {
   works = λ k s. refl;
   keeps = λ k s g p. g;
   agrees = λ k s l g a p. a;
-  unmoved = speaks report (λ m. refl);
-  two = no-room report (λ k s. refl) (λ l. refl);
+  same = λ k s l g a. record {};
+  speaks = inl (λ m. refl);
   ages = λ k s. still (beside-still [] s) refl;
   page = quietly report (λ r l. (refl, refl, refl, refl));
 }
 
 -- ---- WHAT IS SO OF EVERY CALL
 -- no work is heard as a refusal
-found-well : (fs : List Found) (n : ℕ) → oneOf (map found fs) n ≡ true → refuses n ≡ false
-found-well [] n e = true-false false e refl
-found-well (f ∷ fs) n e =
-    split (eqb n (found f)) (λ q. ap refuses (eqb-true n (found f) q) ∙ well f) (λ q. found-well fs n (rw q at e))
-  where
-    well : (f : Found) → refuses (found f) ≡ false
-    well all = refl
-    well nothing = refl
-    well waits = refl
+work-well : (fs : List Found) (n : ℕ) → oneOf (map found fs) n ≡ true → refuses n ≡ false
+work-well [] n e = true-false false e refl
+work-well (f ∷ fs) n e =
+    split (eqb n (found f)) (λ q. ap refuses (eqb-true n (found f) q) ∙ found-well f) (λ q. work-well fs n (rw q at e))
 
 module _ (o : Op) where
   -- what holds of every refusal, and of the work where no test says yes, holds of the rule
   step-all : (k : Caps) (s : State) (P : Out (Ans (entry o .shape)) → Type 0) → ((y : Why) → P (out (refusal (entry o .shape) (code y)) s)) → (Passed (entry o .tests k s) → P (entry o .work k s)) → P (ruled (entry o) k s)
   unfolding ruled
   step-all k s P f g = guarded-all (refusal (entry o .shape)) s (entry o .work k s) P (entry o .tests k s) f g
+
+  -- its work is not heard as a refusal
+  work-done : (k : Caps) (s : State) → refuses (number (say (entry o .shape) (entry o .work k s .ans))) ≡ false
+  work-done k s = work-well (entry o .works) _ (proved o .works k s)
+
+  -- a refusal leaves the reckoning as it is
+  unmoved : (y : Why) (l : Ledger) → entered (record { call = op o; answer = say (entry o .shape) (refusal (entry o .shape) (code y)) }) l ≡ l
+  unfolding entered
+  unmoved y l =
+      ⊎-elim (λ h. rw (h (code y), why-found y all, why-found y nothing, why-found y waits))
+      (λ h. rw (h .mute (refusal (entry o .shape) (code y)) .1) (h .still _ l)) (proved o .speaks)
 
   -- every call keeps a sound state sound
   pub step-keeps : (k : Caps) (s : State) → Good k s → Good k (ruled (entry o) k s .state)
@@ -337,7 +323,7 @@ module _ (o : Op) where
   pub step-agrees : (k : Caps) (s : State) (l : Ledger) → Good k s → Agrees k l s → Agrees k (entered (record { call = op o; answer = step o k s .ans }) l) (step o k s .state)
   step-agrees k s l g a =
       step-all k s (λ x. Agrees k (entered (record { call = op o; answer = say (entry o .shape) (x .ans) }) l) (x .state))
-      (λ y. subst (λ (m : Ledger). Agrees k m s) (sym (proved o .unmoved y l)) a) (proved o .agrees k s l g a)
+      (λ y. subst (λ (m : Ledger). Agrees k m s) (sym (unmoved y l)) a) (proved o .agrees k s l g a)
 
   -- it lowers no age
   pub ages-grow : (k : Caps) (s : State) (a : ℕ) → at s AGE a ≤ at (step o k s .state) AGE a
@@ -354,32 +340,46 @@ module _ (o : Op) where
   step-refused k s =
       step-all k s (λ x. refuses (number (say (entry o .shape) (x .ans))) ≡ true → (x .state ≡ s) × (say (entry o .shape) (x .ans) ≡ zeroed (say (entry o .shape) (x .ans))))
       (λ y e. (refl, refusal-zeroed (entry o .shape) (code y)))
-      (λ p e. true-false (refuses (number (say (entry o .shape) (entry o .work k s .ans)))) e (found-well (entry o .works) _ (proved o .works k s)))
+      (λ p e. true-false (refuses (number (say (entry o .shape) (entry o .work k s .ans)))) e (work-done k s))
 
   -- no call answers 7
   pub never-seven : (k : Caps) (s : State) → number (step o k s .ans) ≡ 7 → ⊥
   never-seven k s =
       step-all k s (λ x. number (say (entry o .shape) (x .ans)) ≡ 7 → ⊥)
-      (λ y e. ⊎-elim (λ q. small y (sym q ∙ e)) (λ q. zero-seven (sym q ∙ e)) (heard-is (entry o .shape) (code y)))
-      (λ p e. true-false (refuses (number (say (entry o .shape) (entry o .work k s .ans)))) (ap refuses e) (found-well (entry o .works) _ (proved o .works k s)))
+      (λ y e. ⊎-elim (λ h. eqb-false (code y) 7 (why-refuses y .1) (sym (h (code y)) ∙ e)) (λ h. zero-seven (sym (h .mute (refusal (entry o .shape) (code y)) .1) ∙ e)) (proved o .speaks))
+      (λ p e. true-false (refuses (number (say (entry o .shape) (entry o .work k s .ans)))) (ap refuses e) (work-done k s))
     where
       zero-seven : _≡_ {A = ℕ} 0 7 → ⊥
       zero-seven e = omega arith
 
-      small : (y : Why) → code y ≡ 7 → ⊥
-      small malformed e = omega arith
-      small full e = omega arith
-      small unknown e = omega arith
-      small moment e = omega arith
+  module _ (k : Caps) (s : State) (l : Ledger) (g : Good k s) (a : Agrees k l s) where
+    -- the first of its tests that says yes is the reckoning's
+    same-verdict : firstYes (entry o .tests k s) ≡ verdict l (op o)
+    same-verdict = same-first (entry o .tests k s) (page o .tests l) (proved o .same k s l g a)
 
-  -- "no room" exactly when no earlier refusal applies and a pool has less left by the reckoning than the call needs
-  pub step-two : (k : Caps) (s : State) (l : Ledger) → Good k s → Agrees k l s → (number (step o k s .ans) ≡ 2) ↔ (page o .short l ≡ true)
-  unfolding ruled
-  step-two k s l g a =
-      let n = number (step o k s .ans) in
-      let e : eqb n 2 ≡ page o .short l =
-      guarded-says (refusal (entry o .shape)) s (entry o .work k s) (λ r. number (say (entry o .shape) r)) 2 (entry o .tests k s) well ∙ proved o .two k s l g a in
-      (λ q. sym e ∙ eq-eqb n 2 q, λ q. eqb-true n 2 (e ∙ q))
-    where
-      well : eqb (number (say (entry o .shape) (entry o .work k s .ans))) 2 ≡ false
-      well = ne-eqb (number (say (entry o .shape) (entry o .work k s .ans))) 2 (λ e. true-false (refuses (number (say (entry o .shape) (entry o .work k s .ans)))) (ap refuses e) (found-well (entry o .works) (number (say (entry o .shape) (entry o .work k s .ans))) (proved o .works k s)))
+    -- THE LAW: where a refusal is due by the reckoning, the answer is that refusal, and nothing changed
+    pub step-verdict : (y : Why) → verdict l (op o) ≡ code y → step o k s ≡ out (say (entry o .shape) (refusal (entry o .shape) (code y))) s
+    unfolding ruled
+    step-verdict y e = ap (said (say (entry o .shape))) (guarded-yes (refusal (entry o .shape)) s (entry o .work k s) y (entry o .tests k s) (same-verdict ∙ e))
+
+    -- and the number is heard nowhere else
+    spoken : Speaks o → (y : Why) → (number (step o k s .ans) ≡ code y) ↔ (verdict l (op o) ≡ code y)
+    unfolding ruled
+    spoken h y = (
+      λ e. sym same-verdict ∙ guarded-heard (refusal (entry o .shape)) s (entry o .work k s) (λ r. number (say (entry o .shape) r)) (code y) (entry o .tests k s) h
+          (λ z. true-false (refuses (code y)) (why-refuses y .0) (ap refuses (sym z) ∙ work-done k s)) e,
+      λ e. ap (λ (x : Out Answer). number (x .ans)) (step-verdict y e) ∙ h (code y),
+    )
+
+    -- THE LAW: an answer that has a number has that of a refusal exactly where it is due by the reckoning
+    pub step-refusal : (y : Why) → numbered (step o k s .ans) ≡ true → (number (step o k s .ans) ≡ code y) ↔ (verdict l (op o) ≡ code y)
+    step-refusal y n = ⊎-elim (λ h. spoken h y) (λ h. true-false (numbered (step o k s .ans)) n (h .mute (ruled (entry o) k s .ans) .0)) (proved o .speaks)
+
+    -- "no room" exactly when no earlier refusal applies and a pool has less left by the reckoning than the call needs
+    pub step-two : (number (step o k s .ans) ≡ 2) ↔ (short l (op o) ≡ true)
+    step-two =
+        ⊎-elim (λ h. (λ e. eq-eqb (verdict l (op o)) 2 (spoken h full .0 e), λ e. spoken h full .1 (eqb-true (verdict l (op o)) 2 e)))
+        (λ h. (λ e. absurd (zero-two (sym (h .mute (ruled (entry o) k s .ans) .1) ∙ e)), λ e. true-false (short l (op o)) e (h .roomy l))) (proved o .speaks)
+      where
+        zero-two : _≡_ {A = ℕ} 0 2 → ⊥
+        zero-two e = omega arith

@@ -19,7 +19,8 @@ use Rattle.pools.proofs.BoolLaws.{split, true-false, same-bool, and-left, and-r
 use Rattle.pools.proofs.ListLaws.{occurs-append, occurs-keep}
 use Rattle.pools.proofs.ExactLaws.{exact-same, exact-put, exact-keep}
 use Rattle.pools.proofs.SlotLaws.{age-of-id, slot-of-id, id-one}
-use Rattle.rules.specs.Terms.{OLDEST, joins}
+use Rattle.tables.specs.Limits.{OLDEST}
+use Rattle.rules.specs.Terms.{joins}
 use Rattle.rules.specs.Agrees.{isWorn}
 use Rattle.rules.proofs.ColumnLaws.{each-set, other}
 

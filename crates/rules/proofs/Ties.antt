@@ -1,5 +1,5 @@
 -- What is done to timers, links and monitors keeps a sound state sound. Assumes nothing.
-use Prim.Native.Nat.{ℕ, zero, suc, _+_, _-_, _^_, _≤_, _<_}
+use Prim.Native.Nat.{ℕ, zero, suc, _+_, _-_, _≤_, _<_}
 use native.Mathlib.Omega.{arith}
 use mathlib.Core.Path.{_≡_, refl, sym, ap, _∙_}
 use mathlib.Core.Bool.{and-false, or-false, Bool, true, false, cond, not, _&&_, _||_}
@@ -15,10 +15,11 @@ use Rattle.pools.proofs.SlotLaws.{age-of-id, live-is, of-live, of-usable, slot-
 use Rattle.ledger.specs.Call.Op.{after, every, cancel, link, unlink, monitor, demonitor}
 use Rattle.tables.specs.declared.Caps.{Caps}
 use Rattle.tables.specs.Columns.{AGE, CLOCK, DUE, INTERVAL, LINK-ONE, LINK-TWO, MONITOR-AGE, STATE, TIMER-AGE, TIMER-OWNER, WATCHED, WATCHER}
+use Rattle.tables.specs.Limits.{ACTOR-FACTOR, DUE-END, LONGEST, MONITOR-FACTOR, OLDEST, TIMER-FACTOR}
 use Rattle.tables.specs.State.{State, at, head, with-col, poke}
 use Rattle.tables.proofs.ViewLaws.{Sized}
 use Rattle.rules.specs.Rule.{Holds}
-use Rattle.rules.specs.Terms.{LONGEST, OLDEST, alive, isActor, isMonitor, isTimer, joins, runner, runnerId}
+use Rattle.rules.specs.Terms.{alive, isActor, isMonitor, isTimer, joins, runner, runnerId}
 use Rattle.rules.specs.Sound.{linkRule, monitorRule, pairRule, timerRule}
 use Rattle.rules.specs.Calls.{arm, armEntry, disarm, dropMonitors, dropTimers, linkFor, linkOf, monitorFor, tie, timerFor, unwatch, watch}
 use Rattle.rules.proofs.Claims.{Keeps}
@@ -26,7 +27,7 @@ use Rattle.rules.proofs.Frame.{Wrote, wrote-none, wrote-over, wrote-siz
 use Rattle.rules.proofs.Frames.{TIMED, WATCHES, wrote-arm, wrote-disarm, wrote-tie, wrote-unwatch, wrote-watch}
 use Rattle.rules.proofs.Good.{Good}
 use Rattle.rules.proofs.GuardLaws.{Passed, held, neither}
-use Rattle.rules.proofs.Part
+use Rattle.rules.proofs.Groups as Part
 use Rattle.rules.proofs.Patch.{_by_also_, done, patch}
 use Rattle.rules.proofs.ColumnLaws.{alive-of, each-set, other}
 use Rattle.rules.proofs.LedgerLaws.{runner-alive}
@@ -36,7 +37,7 @@ use Rattle.rules.proofs.TieLaws.{set-cond, down, used-inside, below, be
 module _ (k : Caps) (s : State) (g : Good k s) where
   -- a timer begins
   pub arm-keeps : (i a time interval : ℕ) → i < k .timers → at s TIMER-AGE i < OLDEST → alive (s STATE) a ≡ true →
-      time ≤ 2 ^ 62 + 2 ^ 32 → interval ≤ LONGEST → Good k (arm s i a time interval)
+      time ≤ DUE-END → interval ≤ LONGEST → Good k (arm s i a time interval)
   unfolding arm poke with-col
   arm-keeps i a time interval l y h x z =
       patch k g (wrote-arm (wrote-none s) i a time interval) (Part.timers by
@@ -83,10 +84,10 @@ pub disarm-keeps : (k : Caps) (s : State) (i : ℕ) → Good k s → i < k .time
 disarm-keeps k s i g l = timers-end-keeps k s (disarm s i) (λ e. eqb e i) g (disarm-ends k s i (g .sized) l)
 
 -- the slot of a timer's id is one of the slots
-pub timer-slot : (k : Caps) (s : State) → Good k s → (id : ℕ) → isTimer s id ≡ true → slotOf 64 id < k .timers
+pub timer-slot : (k : Caps) (s : State) → Good k s → (id : ℕ) → isTimer s id ≡ true → slotOf TIMER-FACTOR id < k .timers
 timer-slot k s g id q =
-    let d = of-live 64 (s TIMER-OWNER) (s TIMER-AGE) id q .0 in
-    omega (arith, used-inside (s TIMER-OWNER) (slotOf 64 id) d, g .sized .words TIMER-OWNER (lit< tt))
+    let d = of-live TIMER-FACTOR (s TIMER-OWNER) (s TIMER-AGE) id q .0 in
+    omega (arith, used-inside (s TIMER-OWNER) (slotOf TIMER-FACTOR id) d, g .sized .words TIMER-OWNER (lit< tt))
 
 -- "A one-shot .. a periodic one": a call that makes a timer keeps a sound state sound
 pub armed-keeps : (delay interval : ℕ) (bad : Bool) → delay ≤ LONGEST → interval ≤ LONGEST → (k : Caps) (s : State) → Good k s → Passed (armEntry delay interval bad .tests k s) → Good k (armEntry delay interval bad .work k s .state)
@@ -110,20 +111,20 @@ every-keeps interval k s g p =
 pub cancel-keeps : (id : ℕ) → Keeps (cancel id)
 cancel-keeps id k s g p =
     let there = isTimer s id in
-    let mine = eqb (at s TIMER-OWNER (slotOf 64 id)) (runner s) in
-    disarm-keeps k s (slotOf 64 id) g (timer-slot k s g id (and-left there mine (held (there && mine) (p .1 .0))))
+    let mine = eqb (at s TIMER-OWNER (slotOf TIMER-FACTOR id)) (runner s) in
+    disarm-keeps k s (slotOf TIMER-FACTOR id) g (timer-slot k s g id (and-left there mine (held (there && mine) (p .1 .0))))
 
 -- ---- actors by their ids
 module _ (k : Caps) (s : State) (g : Good k s) where
   -- the slot of an actor's id is alive
-  pub actor-alive : (id : ℕ) → isActor s id ≡ true → alive (s STATE) (slotOf 64 id) ≡ true
-  actor-alive id q = alive-of (s STATE) (slotOf 64 id) (of-live 64 (s STATE) (s AGE) id q .0)
+  pub actor-alive : (id : ℕ) → isActor s id ≡ true → alive (s STATE) (slotOf ACTOR-FACTOR id) ≡ true
+  actor-alive id q = alive-of (s STATE) (slotOf ACTOR-FACTOR id) (of-live ACTOR-FACTOR (s STATE) (s AGE) id q .0)
 
   -- another than the running actor has another slot
-  pub actor-other : (id : ℕ) → eqb (runner s) 0 ≡ false → isActor s id ≡ true → eqb id (runnerId s) ≡ false → runner s ≡ suc (slotOf 64 id) → ⊥
+  pub actor-other : (id : ℕ) → eqb (runner s) 0 ≡ false → isActor s id ≡ true → eqb id (runnerId s) ≡ false → runner s ≡ suc (slotOf ACTOR-FACTOR id) → ⊥
   actor-other id h q e z =
-      let w : slotOf 64 id ≡ runner s - 1 = omega arith in
-      eqb-false id (runnerId s) e (live-is 64 (s STATE) (s AGE) id (omega arith) q ∙ ap (λ (x : ℕ). idOf 64 (at s AGE x) x) w)
+      let w : slotOf ACTOR-FACTOR id ≡ runner s - 1 = omega arith in
+      eqb-false id (runnerId s) e (live-is ACTOR-FACTOR (s STATE) (s AGE) id (omega arith) q ∙ ap (λ (x : ℕ). idOf ACTOR-FACTOR (at s AGE x) x) w)
 
 -- ---- links
 module _ (k : Caps) (s : State) (g : Good k s) where
@@ -156,19 +157,19 @@ module _ (k : Caps) (s : State) (g : Good k s) where
 -- linking keeps a sound state sound
 pub link-keeps : (partner : ℕ) → Keeps (link partner)
 link-keeps partner k s g p =
-    let b = suc (slotOf 64 partner) in
+    let b = suc (slotOf ACTOR-FACTOR partner) in
     let h = p .0 in
     let r = held (isActor s partner) (p .1 .1 .0) in
     split (ltb (linkOf k s (runner s) b) (k .links)) (λ v. rw v g)
     (λ v. let w : not (ltb (linkFor k s) (k .links)) ≡ false = rw v at (p .1 .1 .1 .0) in
     rw v (tie-keeps k s g (linkFor k s) (runner s) b (ltb-true (linkFor k s) (k .links) (held (ltb (linkFor k s) (k .links)) w)) (eqb-false (runner s) 0 h) (λ z. omega arith)
-    (runner-alive k s g h) (rw (down (slotOf 64 partner)) (actor-alive k s g partner r)) (actor-other k s g partner h r (p .1 .0))
+    (runner-alive k s g h) (rw (down (slotOf ACTOR-FACTOR partner)) (actor-alive k s g partner r)) (actor-other k s g partner h r (p .1 .0))
     (λ d m. lowest-first (joins (s LINK-ONE) (s LINK-TWO) (runner s) b) (k .links) d (omega (arith, ltb-false (linkOf k s (runner s) b) (k .links) v)))))
 
 -- and unlinking
 pub unlink-keeps : (partner : ℕ) → Keeps (unlink partner)
 unlink-keeps partner k s g p =
-    let e = linkOf k s (runner s) (suc (slotOf 64 partner)) in
+    let e = linkOf k s (runner s) (suc (slotOf ACTOR-FACTOR partner)) in
     untie-keeps k s g e (ltb-true e (k .links) (and-right (isActor s partner) (ltb e (k .links)) (held (isActor s partner && ltb e (k .links)) (p .1 .0))))
 
 -- ---- monitors
@@ -219,10 +220,10 @@ pub unwatch-keeps : (k : Caps) (s : State) (i : ℕ) → Good k s → i < k .mon
 unwatch-keeps k s i g l = monitors-end-keeps k s (unwatch s i) (λ e. eqb e i) g (unwatch-ends k s i (g .sized) l)
 
 -- the slot of a monitor's id is one of the slots
-pub monitor-slot : (k : Caps) (s : State) → Good k s → (id : ℕ) → isMonitor s id ≡ true → slotOf 128 id < k .monitors
+pub monitor-slot : (k : Caps) (s : State) → Good k s → (id : ℕ) → isMonitor s id ≡ true → slotOf MONITOR-FACTOR id < k .monitors
 monitor-slot k s g id q =
-    let d = of-live 128 (s WATCHER) (s MONITOR-AGE) id q .0 in
-    omega (arith, used-inside (s WATCHER) (slotOf 128 id) d, g .sized .words WATCHER (lit< tt))
+    let d = of-live MONITOR-FACTOR (s WATCHER) (s MONITOR-AGE) id q .0 in
+    omega (arith, used-inside (s WATCHER) (slotOf MONITOR-FACTOR id) d, g .sized .words WATCHER (lit< tt))
 
 -- monitoring keeps a sound state sound
 pub monitor-keeps : (target : ℕ) → Keeps (monitor target)
@@ -231,13 +232,13 @@ monitor-keeps target k s g p =
     let r = held (isActor s target) (p .1 .1 .0) in
     let m = ltb-true i (k .monitors) (held (ltb i (k .monitors)) (p .1 .1 .1 .0)) in
     let f = of-usable OLDEST (s WATCHER) (s MONITOR-AGE) i (lowest-at (usable OLDEST (s WATCHER) (s MONITOR-AGE)) (k .monitors) m) in
-    watch-keeps k s g i (runner s) (suc (slotOf 64 target)) m (f .1) (eqb-false (runner s) 0 (p .0)) (λ z. omega arith) (runner-alive k s g (p .0)) (rw (down (slotOf 64 target)) (actor-alive k s g target r)) (actor-other k s g target (p .0) r (p .1 .0))
+    watch-keeps k s g i (runner s) (suc (slotOf ACTOR-FACTOR target)) m (f .1) (eqb-false (runner s) 0 (p .0)) (λ z. omega arith) (runner-alive k s g (p .0)) (rw (down (slotOf ACTOR-FACTOR target)) (actor-alive k s g target r)) (actor-other k s g target (p .0) r (p .1 .0))
 
 -- and taking a monitor back
 pub demonitor-keeps : (id : ℕ) → Keeps (demonitor id)
 demonitor-keeps id k s g p =
-    let mine = eqb (at s WATCHER (slotOf 128 id)) (runner s) in
-    unwatch-keeps k s (slotOf 128 id) g (monitor-slot k s g id (and-left (isMonitor s id) mine (held (isMonitor s id && mine) (p .1 .0))))
+    let mine = eqb (at s WATCHER (slotOf MONITOR-FACTOR id)) (runner s) in
+    unwatch-keeps k s (slotOf MONITOR-FACTOR id) g (monitor-slot k s g id (and-left (isMonitor s id) mine (held (isMonitor s id && mine) (p .1 .0))))
 
 -- ---- an actor's own monitors and timers end
 module _ (s u v : State) (p q : ℕ → Bool) where
@@ -362,9 +363,9 @@ next-new F words ages i l =
     (and-false (not (unused words i)))
 
 -- a new timer's id is no timer's
-pub timer-new : (k : Caps) (s : State) (i : ℕ) → Good k s → i < k .timers → isTimer s (idOf 64 (at s TIMER-AGE i + 1) i) ≡ false
-timer-new k s i g l = next-new 64 (s TIMER-OWNER) (s TIMER-AGE) i (omega (arith, g .range .fewTimers))
+pub timer-new : (k : Caps) (s : State) (i : ℕ) → Good k s → i < k .timers → isTimer s (idOf TIMER-FACTOR (at s TIMER-AGE i + 1) i) ≡ false
+timer-new k s i g l = next-new TIMER-FACTOR (s TIMER-OWNER) (s TIMER-AGE) i (omega (arith, g .range .fewTimers))
 
 -- and a new monitor's no monitor's
-pub monitor-new : (k : Caps) (s : State) (i : ℕ) → Good k s → i < k .monitors → isMonitor s (idOf 128 (at s MONITOR-AGE i + 1) i) ≡ false
-monitor-new k s i g l = next-new 128 (s WATCHER) (s MONITOR-AGE) i (omega (arith, g .range .fewMonitors))
+pub monitor-new : (k : Caps) (s : State) (i : ℕ) → Good k s → i < k .monitors → isMonitor s (idOf MONITOR-FACTOR (at s MONITOR-AGE i + 1) i) ≡ false
+monitor-new k s i g l = next-new MONITOR-FACTOR (s WATCHER) (s MONITOR-AGE) i (omega (arith, g .range .fewMonitors))

@@ -1,44 +1,47 @@
 -- What is done to timers, links and monitors keeps the tables and the reckoning in step. Assumes nothing.
-use Prim.Native.Nat.{ℕ, suc, _+_, _-_, _^_, _≤_, _<_}
+use Prim.Native.Nat.{ℕ, suc, _+_, _-_, _≤_, _<_}
 use native.Mathlib.Omega.{arith}
 use mathlib.Core.Path.{_≡_, refl, sym, ap, ap₂, subst, _∙_}
-use mathlib.Core.Bool.{Bool, true, false, not, _&&_, _||_}
+use mathlib.Core.Bool.{Bool, true, false, and-false, not, _&&_, _||_}
 use mathlib.Core.List.{List, [], _∷_, _++_, map, map-map, map-append}
 use lib.ListN.{getD, length, set}
 use lib.Seq.{getD-set-same}
 use lib.Dec.{eqb, ltb, lit<}
-use borrow.Author.Tests.{eqb-true, eqb-false, eq-eqb, ne-eqb, ltb-true, ltb-false, lt-ltb, le-ltb, not-true}
-use Rattle.ledger.specs.Call.{Op}
+use borrow.Author.Tests.{eqb-true, eqb-false, eq-eqb, ne-eqb, ltb-true, ltb-false, lt-ltb, not-true}
+use Rattle.ledger.specs.Call.{Op, when}
 use Rattle.ledger.specs.Call.Call.{op}
+use Rattle.ledger.specs.Call.Why.{malformed, full}
 use Rattle.ledger.specs.Call.Op.{after, every, cancel, link, unlink, monitor, demonitor}
 use Rattle.ledger.specs.Ledger.{Ledger, Link, Monitor, Time, Timer, ties, time, withTies, withTime}
-use Rattle.ledger.specs.Lists.{those}
+use Rattle.ledger.specs.Lists.{some, those}
 use Rattle.ledger.specs.Reckon
 use Rattle.ledger.specs.Reckon.{armed, endLinks, endMonitors, endTimers, entered, linked, page, timer}
-use Rattle.ledger.specs.Room.{idle, linksLeft, monitorsLeft, timersLeft}
+use Rattle.ledger.specs.Room.{linksLeft, monitorsLeft, nobody, owns, timersLeft, watches}
 use Rattle.pools.specs.Pool.{occurs, Exact}
 use Rattle.pools.specs.Lists.{keep}
-use Rattle.pools.specs.Slot.{idOf, slotOf, unused, usable}
+use Rattle.pools.specs.Slot.{idOf, isLive, slotOf, unused, usable}
 use Rattle.pools.proofs.BoolLaws.{split, true-false, same-bool, and-left, and-right}
 use Rattle.pools.proofs.PoolLaws.{lowest-at, lowest-first}
 use Rattle.pools.proofs.ListLaws.{keep-same-on}
 use Rattle.pools.proofs.ExactLaws.{exact-used}
-use Rattle.pools.proofs.SlotLaws.{of-usable, live-is}
+use Rattle.pools.proofs.SlotLaws.{of-live, of-usable, live-is}
 use Rattle.tables.specs.declared.Caps.{Caps}
 use Rattle.tables.specs.Columns.{AGE, CLOCK, DUE, INTERVAL, LINK-ONE, LINK-TWO, MONITOR-AGE, STATE, TIMER-AGE, TIMER-OWNER, WATCHED, WATCHER}
+use Rattle.tables.specs.Limits.{ACTOR-FACTOR, LONGEST, MONITOR-FACTOR, OLDEST, TIMER-FACTOR}
 use Rattle.tables.specs.State.{InRange, State, at, head, with-col, poke}
 use Rattle.tables.proofs.ViewLaws.{Sized}
-use Rattle.rules.specs.Terms.{LONGEST, OLDEST, actorId, alive, isActor, isMonitor, isTimer, joins, monitorId, runner, runnerId, timerId}
+use Rattle.rules.specs.Terms.{actorId, alive, isActor, isMonitor, isTimer, joins, monitorId, runner, runnerId, timerId}
 use Rattle.rules.specs.Agrees.{Agrees, isWorn, linkAt, monitorAt, timerAt}
 use Rattle.rules.specs.Calls.{arm, armEntry, disarm, dropMonitors, dropTimers, linkFor, linkOf, monitorFor, tie, timerFor, unwatch, watch}
 use Rattle.rules.specs.Run.{sayMade}
 use Rattle.rules.specs.Sound.{pairRule}
-use Rattle.rules.proofs.Claims.{Agreed, Short}
+use Rattle.rules.proofs.Claims.{Agreed, Tested}
 use Rattle.rules.proofs.Good.{Good}
-use Rattle.rules.proofs.GuardLaws.{Passed, held, says}
+use Rattle.rules.proofs.GuardLaws.{Passed, held}
 use Rattle.rules.proofs.ColumnLaws.{other}
 use Rattle.rules.proofs.LedgerLaws
-use Rattle.rules.proofs.LedgerLaws.{idle-same, known-same, links-left, map-same-on, monitors-left, room-same, running-is, runner-alive, some-map, some-no, some-yes, those-map, timers-left}
+use Rattle.rules.proofs.LedgerLaws.{bond-ends, clock-owner, eye-ends, full-same, idle-same, known-same, links-left, live-some, map-same-on, monitors-left, running-is, runner-alive, some-map, some-no, some-yes, stranger, those-map, timers-left}
+use Rattle.rules.proofs.SameTests.{SameTests}
 use Rattle.rules.proofs.TieLaws.{below, keep-in, begins, worn-begins, ends, worn-ends, id-eqb, down, joins-none, pair-once, set-cond, used-inside}
 use Rattle.rules.proofs.AgreeLaws.{agrees-links, agrees-monitors, agrees-time, living}
 use Rattle.rules.proofs.Frame.{Wrote, wrote-none}
@@ -70,7 +73,7 @@ module _ (k : Caps) (l : Ledger) (s u : State) (z : Sized k s) (v : InRange k) (
       (ends (s TIMER-OWNER) (u TIMER-OWNER) p (t .owner) (a .time .clocks) (a .time .allClocks))
       left
       (rw (a .time .timers, those-map q (timerAt s) (a .time .clocks), keep-same-on (λ e. q (timerAt s e)) p (a .time .clocks) same, map-map (λ x. x .id) (timerAt s) (keep p (a .time .clocks)), t .age)
-      (worn-ends (s TIMER-OWNER) (u TIMER-OWNER) p (t .owner) 64 (s TIMER-AGE) (a .time .clocks) (l .time .worn)
+      (worn-ends (s TIMER-OWNER) (u TIMER-OWNER) p (t .owner) TIMER-FACTOR (s TIMER-AGE) (a .time .clocks) (l .time .worn)
       (λ e o. omega (arith, clock-used e o .1, v .fewTimers)) (a .time .allClocks) (a .time .wornClocks)))
     where
       same : (e : ℕ) → 0 < occurs e (a .time .clocks) → q (timerAt s e) ≡ p e
@@ -91,7 +94,7 @@ module _ (k : Caps) (l : Ledger) (s u : State) (z : Sized k s) (v : InRange k) (
 pub disarm-agree : (k : Caps) (l : Ledger) (s : State) (i : ℕ) → Sized k s → InRange k → Agrees k l s → i < k .timers → Agrees k (endTimers (λ t. eqb (t .id) (timerId s i)) l) (disarm s i)
 disarm-agree k l s i z v a m =
     timers-end-agree k l s (disarm s i) z v a (λ e. eqb e i) (λ t. eqb (t .id) (timerId s i)) (disarm-ends k s i z m)
-    (λ e d n. id-eqb 64 (s TIMER-AGE) e i (omega (arith, v .fewTimers)) (omega (arith, v .fewTimers)))
+    (λ e d n. id-eqb TIMER-FACTOR (s TIMER-AGE) e i (omega (arith, v .fewTimers)) (omega (arith, v .fewTimers)))
 
 -- the same of a sound state
 pub disarm-agrees : (k : Caps) (l : Ledger) (s : State) (i : ℕ) → Good k s → Agrees k l s → i < k .timers → Agrees k (endTimers (λ t. eqb (t .id) (timerId s i)) l) (disarm s i)
@@ -101,7 +104,7 @@ disarm-agrees k l s i g a m = disarm-agree k l s i (g .sized) (g .range) a m
 module _ (k : Caps) (l : Ledger) (s : State) (g : Good k s) (a : Agrees k l s) where
   -- the timer comes to the end of the reckoning's
   pub arm-agrees : (i b t n : ℕ) → i < k .timers → at s TIMER-OWNER i ≡ 0 → at s TIMER-AGE i < OLDEST →
-      Agrees k (withTime l (time (l .time .clock) (l .time .timers ++ (timer (idOf 64 (at s TIMER-AGE i + 1) i) (actorId s b) t n ∷ [])) (l .time .worn))) (arm s i b t n)
+      Agrees k (withTime l (time (l .time .clock) (l .time .timers ++ (timer (idOf TIMER-FACTOR (at s TIMER-AGE i + 1) i) (actorId s b) t n ∷ [])) (l .time .worn))) (arm s i b t n)
   unfolding arm poke with-col
   arm-agrees i b t n m u y =
       timers-agree k l s (arm s i b t n) _ (a .time .clocks ++ (i ∷ []))
@@ -119,7 +122,7 @@ module _ (k : Caps) (l : Ledger) (s : State) (g : Good k s) (a : Agrees k l s) w
           let q : eqb e i ≡ false = ne-eqb e i (λ z. c .0 (ap (at s TIMER-OWNER) z ∙ u)) in
           rw (other (s TIMER-AGE) i (at s TIMER-AGE i + 1) e q, other (s TIMER-OWNER) i (suc b) e q, other (s DUE) i t e q, other (s INTERVAL) i n e q)
 
-      born : timerAt (arm s i b t n) i ≡ timer (idOf 64 (at s TIMER-AGE i + 1) i) (actorId s b) t n
+      born : timerAt (arm s i b t n) i ≡ timer (idOf TIMER-FACTOR (at s TIMER-AGE i + 1) i) (actorId s b) t n
       born =
           rw (
             getD-set-same (s TIMER-AGE) i (at s TIMER-AGE i + 1) 0 (omega (arith, g .sized .words TIMER-AGE (lit< tt))),
@@ -137,7 +140,7 @@ module _ (k : Caps) (l : Ledger) (s : State) (g : Good k s) (a : Agrees k l s) w
       let i = timerFor k s in
       let y = ltb-true i (k .timers) (held (ltb i (k .timers)) (p .1 .1 .0)) in
       let f = of-usable OLDEST (s TIMER-OWNER) (s TIMER-AGE) i (lowest-at (usable OLDEST (s TIMER-OWNER) (s TIMER-AGE)) (k .timers) y) in
-      let r = idOf 64 (at s TIMER-AGE i + 1) i in
+      let r = idOf TIMER-FACTOR (at s TIMER-AGE i + 1) i in
       let e : timer r (l .people .running) (l .time .clock + delay) interval ≡ timer r (runnerId s) (head s CLOCK + delay) interval = rw (running-is k s g l a (p .0), a .time .clock) in
       rw (d r)
       (subst (λ (x : Timer). Agrees k (withTime l (time (l .time .clock) (l .time .timers ++ (x ∷ [])) (l .time .worn))) (arm s i (runner s - 1) (head s CLOCK + delay) interval)) (sym e)
@@ -156,36 +159,25 @@ pub cancel-agrees : (id : ℕ) → Agreed (cancel id)
 unfolding entered
 cancel-agrees id k s l g a p =
     let there = isTimer s id in
-    let mine = eqb (at s TIMER-OWNER (slotOf 64 id)) (runner s) in
+    let mine = eqb (at s TIMER-OWNER (slotOf TIMER-FACTOR id)) (runner s) in
     let t = and-left there mine (held (there && mine) (p .1 .0)) in
-    let e : id ≡ timerId s (slotOf 64 id) = live-is 64 (s TIMER-OWNER) (s TIMER-AGE) id (omega arith) t in
-    subst (λ (x : ℕ). Agrees k (endTimers (λ t. eqb (t .id) x) l) (disarm s (slotOf 64 id))) (sym e) (disarm-agrees k l s (slotOf 64 id) g a (timer-slot k s g id t))
+    let e : id ≡ timerId s (slotOf TIMER-FACTOR id) = live-is TIMER-FACTOR (s TIMER-OWNER) (s TIMER-AGE) id (omega arith) t in
+    subst (λ (x : ℕ). Agrees k (endTimers (λ t. eqb (t .id) x) l) (disarm s (slotOf TIMER-FACTOR id))) (sym e) (disarm-agrees k l s (slotOf TIMER-FACTOR id) g a (timer-slot k s g id t))
 
--- ---- "no room"
-module _ (k : Caps) (l : Ledger) (s : State) (g : Good k s) (a : Agrees k l s) where
-  -- a call that makes a timer
-  arm-says : (delay interval : ℕ) (bad : Bool) → says (λ n. n) 2 (armEntry delay interval bad .tests k s) ≡ not (idle l) && (not bad && eqb (timersLeft l) 0)
-  arm-says delay interval bad =
-      rw (← idle-same k s g l a)
-      (split (eqb (runner s) 0) (λ h. rw h)
-      (λ h. rw h (split bad (λ q. rw q)
-      (λ q. rw (q, room-same (usable OLDEST (s TIMER-OWNER) (s TIMER-AGE)) (k .timers) (timersLeft l) (timers-left k s g l a))
-      (split (eqb (timersLeft l) 0) (λ v. rw v) (λ v. rw v))))))
+-- ---- their tests are the reckoning's
+-- a call that makes a timer
+arm-same : (delay interval : ℕ) (bad : Bool) (k : Caps) (s : State) (l : Ledger) → Good k s → Agrees k l s →
+    SameTests (armEntry delay interval bad .tests k s) (nobody l ∷ when bad malformed ∷ when (eqb (timersLeft l) 0) full ∷ [])
+arm-same delay interval bad k s l g a =
+    (idle-same k s g l a, refl, λ h. (refl, refl, λ q. (full-same (usable OLDEST (s TIMER-OWNER) (s TIMER-AGE)) (k .timers) (timersLeft l) (timers-left k s g l a), refl, λ z. record {})))
 
--- a delay is malformed above the longest
-pub longest : (n : ℕ) → ltb n (2 ^ 32) ≡ not (ltb LONGEST n)
-longest n =
-    split (ltb LONGEST n) (λ q. rw q (le-ltb n (2 ^ 32) (omega (arith, ltb-true LONGEST n q)))) (λ q. rw q (lt-ltb n (2 ^ 32) (omega (arith, ltb-false LONGEST n q))))
+-- a one-shot
+pub after-same : (delay : ℕ) → Tested (after delay)
+after-same delay = arm-same delay 0 (ltb LONGEST delay)
 
--- a one-shot is refused for want of room exactly where the reckoning says so
-pub after-short : (delay : ℕ) → Short (after delay)
-after-short delay k s l g a = rw (longest delay) (arm-says k l s g a delay 0 (ltb LONGEST delay))
-
--- and a periodic one
-pub every-short : (interval : ℕ) → Short (every interval)
-every-short interval k s l g a =
-    let e : not (eqb interval 0) && (not (ltb LONGEST interval) && eqb (timersLeft l) 0) ≡ not (eqb interval 0 || ltb LONGEST interval) && eqb (timersLeft l) 0 = split (eqb interval 0) (λ q. rw q) (λ q. rw q) in
-    rw (longest interval, e) (arm-says k l s g a interval interval (eqb interval 0 || ltb LONGEST interval))
+-- a periodic one
+pub every-same : (interval : ℕ) → Tested (every interval)
+every-same interval = arm-same interval interval (eqb interval 0 || ltb LONGEST interval)
 
 -- ---- the links' columns alone differ
 module _ (k : Caps) (l : Ledger) (s u : State) where
@@ -287,18 +279,18 @@ module _ (k : Caps) (l : Ledger) (s : State) (g : Good k s) (a : Agrees k l s) w
 
 module _ (k : Caps) (l : Ledger) (s : State) (g : Good k s) (a : Agrees k l s) where
   -- the running actor and another are linked on both sides, or on neither
-  pub linked-run : (id : ℕ) → eqb (runner s) 0 ≡ false → isActor s id ≡ true → linked l (l .people .running) id ≡ ltb (linkOf k s (runner s) (suc (slotOf 64 id))) (k .links)
+  pub linked-run : (id : ℕ) → eqb (runner s) 0 ≡ false → isActor s id ≡ true → linked l (l .people .running) id ≡ ltb (linkOf k s (runner s) (suc (slotOf ACTOR-FACTOR id))) (k .links)
   linked-run id h r =
       let up : suc (runner s - 1) ≡ runner s = omega (arith, eqb-false (runner s) 0 h) in
-      ap₂ (λ (i : ℕ) (j : ℕ). linked l i j) (running-is k s g l a h) (live-is 64 (s STATE) (s AGE) id (omega arith) r)
-      ∙ linked-same k l s g a (runner s - 1) (slotOf 64 id) (runner-alive k s g h) (actor-alive k s g id r)
-      ∙ ap (λ (x : ℕ). ltb (linkOf k s x (suc (slotOf 64 id))) (k .links)) up
+      ap₂ (λ (i : ℕ) (j : ℕ). linked l i j) (running-is k s g l a h) (live-is ACTOR-FACTOR (s STATE) (s AGE) id (omega arith) r)
+      ∙ linked-same k l s g a (runner s - 1) (slotOf ACTOR-FACTOR id) (runner-alive k s g h) (actor-alive k s g id r)
+      ∙ ap (λ (x : ℕ). ltb (linkOf k s x (suc (slotOf ACTOR-FACTOR id))) (k .links)) up
 
 -- "Linking a pair already linked answers 0 and changes nothing"
 pub link-agrees : (partner : ℕ) → Agreed (link partner)
 unfolding entered
 link-agrees partner k s l g a p =
-    let b = suc (slotOf 64 partner) in
+    let b = suc (slotOf ACTOR-FACTOR partner) in
     let h = p .0 in
     let r = held (isActor s partner) (p .1 .1 .0) in
     let e = linked-run k l s g a partner h r in
@@ -306,7 +298,7 @@ link-agrees partner k s l g a p =
     (λ v. let w : not (ltb (linkFor k s) (k .links)) ≡ false = rw v at (p .1 .1 .1 .0) in
     let x : linkFor k s < k .links = ltb-true (linkFor k s) (k .links) (held (ltb (linkFor k s) (k .links)) w) in
     let z : _≡_ {A = Link} (record { one = l .people .running; two = partner }) (record { one = actorId s (runner s - 1); two = actorId s (b - 1) }) =
-    both (running-is k s g l a h) (live-is 64 (s STATE) (s AGE) partner (omega arith) r ∙ ap (actorId s) (sym (down (slotOf 64 partner)))) in
+    both (running-is k s g l a h) (live-is ACTOR-FACTOR (s STATE) (s AGE) partner (omega arith) r ∙ ap (actorId s) (sym (down (slotOf ACTOR-FACTOR partner)))) in
     rw (v, e ∙ v) (subst (λ (x : Link). Agrees k (withTies l (ties (l .ties .links ++ (x ∷ [])) (l .ties .monitors) (l .ties .worn))) (tie s (linkFor k s) (runner s) b)) (sym z)
     (tie-agrees k l s g a (linkFor k s) (runner s) b x (eqb-true (at s LINK-ONE (linkFor k s)) 0 (lowest-at (unused (s LINK-ONE)) (k .links) x)) (eqb-false (runner s) 0 h))))
   where
@@ -314,39 +306,59 @@ link-agrees partner k s l g a p =
     both : {i j x y : ℕ} → i ≡ x → j ≡ y → _≡_ {A = Link} (record { one = i; two = j }) (record { one = x; two = y })
     both p q = rw (p, q)
 
--- a link is refused for want of room exactly where the reckoning says so
-pub link-short : (partner : ℕ) → Short (link partner)
-link-short partner k s l g a =
-    let b = suc (slotOf 64 partner) in
-    rw (← idle-same k s g l a, ← known-same k s g l a partner)
-    (split (eqb (runner s) 0) (λ h. rw h)
-    (λ h. let n : eqb partner (l .people .running) ≡ eqb partner (runnerId s) = ap (eqb partner) (running-is k s g l a h) in
-    rw (h, n) (split (eqb partner (runnerId s)) (λ q. rw q)
-    (λ q. rw q (split (isActor s partner)
-    (λ r. rw (r, linked-run k l s g a partner h r)
-    (split (ltb (linkOf k s (runner s) b) (k .links)) (λ v. rw v)
-    (λ v. rw (v, room-same (unused (s LINK-ONE)) (k .links) (linksLeft l) (links-left k s g l a)) (split (eqb (linksLeft l) 0) (λ w. rw w) (λ w. rw w)))))
-    (λ r. rw r))))))
+-- its tests are the reckoning's
+pub link-same : (partner : ℕ) → Tested (link partner)
+link-same partner k s l g a = (
+  idle-same k s g l a,
+  refl,
+  λ h. (
+    ap (eqb partner) (sym (running-is k s g l a h)),
+    refl,
+    λ q. (
+      ap not (known-same k s g l a partner),
+      refl,
+      λ u. (
+        ap₂ (λ (x : Bool) (y : Bool). not x && y) (sym (linked-run k l s g a partner h (held (isActor s partner) u))) (full-same (unused (s LINK-ONE)) (k .links) (linksLeft l) (links-left k s g l a)),
+        refl,
+        λ z. record {},
+      ),
+    ),
+  ),
+)
+
+-- "3 if there is none (oneself included)": its tests are the reckoning's
+pub unlink-same : (partner : ℕ) → Tested (unlink partner)
+unfolding Reckon.joins
+unlink-same partner k s l g a = (idle-same k s g l a, refl, λ h. (ap not (there h), refl, λ z. record {}))
+  where
+    -- who is not known is linked with nobody
+    there : eqb (runner s) 0 ≡ false → isActor s partner && ltb (linkOf k s (runner s) (suc (slotOf ACTOR-FACTOR partner))) (k .links) ≡ linked l (l .people .running) partner
+    there h =
+        split (isActor s partner) (λ q. rw q (sym (linked-run k l s g a partner h q)))
+        (λ q. rw (q, a .links .links, some-map (Reckon.joins (l .people .running) partner) (linkAt s) (a .links .bonds))
+        (sym (some-no (λ e. Reckon.joins (l .people .running) partner (linkAt s e)) (a .links .bonds) (λ e o.
+        let b = bond-ends k s g l a e o in
+        rw (stranger k s g partner q _ (b .0), stranger k s g partner q _ (b .1), and-false (eqb (actorId s (at s LINK-ONE e - 1)) (l .people .running)))))))
 
 -- "Either end may take a link back by the partner's id"
 pub unlink-agrees : (partner : ℕ) → Agreed (unlink partner)
 unfolding entered
 unlink-agrees partner k s l g a p =
-    let i = linkOf k s (runner s) (suc (slotOf 64 partner)) in
+    let i = linkOf k s (runner s) (suc (slotOf ACTOR-FACTOR partner)) in
     let q = held (isActor s partner && ltb i (k .links)) (p .1 .0) in
     let r = and-left (isActor s partner) (ltb i (k .links)) q in
     let m = ltb-true i (k .links) (and-right (isActor s partner) (ltb i (k .links)) q) in
     untie-agrees k l s g a i (Reckon.joins (l .people .running) partner) m (λ d u n.
-    ap₂ (λ (x : ℕ) (y : ℕ). Reckon.joins x y (linkAt s d)) (running-is k s g l a (p .0)) (live-is 64 (s STATE) (s AGE) partner (omega arith) r)
+    ap₂ (λ (x : ℕ) (y : ℕ). Reckon.joins x y (linkAt s d)) (running-is k s g l a (p .0)) (live-is ACTOR-FACTOR (s STATE) (s AGE) partner (omega arith) r)
     ∙ once k l s g a partner (p .0) r m d u n)
   where
     -- no other link joins the two
-    once : (k : Caps) (l : Ledger) (s : State) (g : Good k s) (a : Agrees k l s) (partner : ℕ) → eqb (runner s) 0 ≡ false → isActor s partner ≡ true → linkOf k s (runner s) (suc (slotOf 64 partner)) < k .links →
-        (d : ℕ) → (at s LINK-ONE d ≡ 0 → ⊥) → d < k .links → Reckon.joins (runnerId s) (actorId s (slotOf 64 partner)) (linkAt s d) ≡ eqb d (linkOf k s (runner s) (suc (slotOf 64 partner)))
+    once : (k : Caps) (l : Ledger) (s : State) (g : Good k s) (a : Agrees k l s) (partner : ℕ) → eqb (runner s) 0 ≡ false → isActor s partner ≡ true → linkOf k s (runner s) (suc (slotOf ACTOR-FACTOR partner)) < k .links →
+        (d : ℕ) → (at s LINK-ONE d ≡ 0 → ⊥) → d < k .links → Reckon.joins (runnerId s) (actorId s (slotOf ACTOR-FACTOR partner)) (linkAt s d) ≡ eqb d (linkOf k s (runner s) (suc (slotOf ACTOR-FACTOR partner)))
     once k l s g a partner h r m d u n =
         let up : suc (runner s - 1) ≡ runner s = omega (arith, eqb-false (runner s) 0 h) in
-        subst (λ (x : ℕ). linkOf k s x (suc (slotOf 64 partner)) < k .links → Reckon.joins (runnerId s) (actorId s (slotOf 64 partner)) (linkAt s d) ≡ eqb d (linkOf k s x (suc (slotOf 64 partner)))) up
-        (λ w. linked-once k l s g a (runner s - 1) (slotOf 64 partner) (runner-alive k s g h) (actor-alive k s g partner r) w d u n) m
+        subst (λ (x : ℕ). linkOf k s x (suc (slotOf ACTOR-FACTOR partner)) < k .links → Reckon.joins (runnerId s) (actorId s (slotOf ACTOR-FACTOR partner)) (linkAt s d) ≡ eqb d (linkOf k s x (suc (slotOf ACTOR-FACTOR partner)))) up
+        (λ w. linked-once k l s g a (runner s - 1) (slotOf ACTOR-FACTOR partner) (runner-alive k s g h) (actor-alive k s g partner r) w d u n) m
 
 -- ---- the monitors' columns alone differ
 module _ (k : Caps) (l : Ledger) (s u : State) where
@@ -373,7 +385,7 @@ module _ (k : Caps) (l : Ledger) (s u : State) (g : Good k s) (a : Agrees k l s)
       (ends (s WATCHER) (u WATCHER) p (t .watcher) (a .monitors .eyes) (a .monitors .allEyes))
       left
       (rw (a .monitors .monitors, those-map q (monitorAt s) (a .monitors .eyes), keep-same-on (λ e. q (monitorAt s e)) p (a .monitors .eyes) same, map-map (λ x. x .id) (monitorAt s) (keep p (a .monitors .eyes)), t .age)
-      (worn-ends (s WATCHER) (u WATCHER) p (t .watcher) 128 (s MONITOR-AGE) (a .monitors .eyes) (l .ties .worn)
+      (worn-ends (s WATCHER) (u WATCHER) p (t .watcher) MONITOR-FACTOR (s MONITOR-AGE) (a .monitors .eyes) (l .ties .worn)
       (λ e o. omega (arith, eye-used e o .1, g .range .fewMonitors)) (a .monitors .allEyes) (a .monitors .wornEyes)))
     where
       same : (e : ℕ) → 0 < occurs e (a .monitors .eyes) → q (monitorAt s e) ≡ p e
@@ -394,13 +406,13 @@ module _ (k : Caps) (l : Ledger) (s u : State) (g : Good k s) (a : Agrees k l s)
 pub unwatch-agrees : (k : Caps) (l : Ledger) (s : State) (i : ℕ) → Good k s → Agrees k l s → i < k .monitors → Agrees k (endMonitors (λ m. eqb (m .id) (monitorId s i)) l) (unwatch s i)
 unwatch-agrees k l s i g a m =
     monitors-end-agree k l s (unwatch s i) g a (λ e. eqb e i) (λ t. eqb (t .id) (monitorId s i)) (unwatch-ends k s i (g .sized) m)
-    (λ e d n. id-eqb 128 (s MONITOR-AGE) e i (omega (arith, g .range .fewMonitors)) (omega (arith, g .range .fewMonitors)))
+    (λ e d n. id-eqb MONITOR-FACTOR (s MONITOR-AGE) e i (omega (arith, g .range .fewMonitors)) (omega (arith, g .range .fewMonitors)))
 
 -- ---- a monitor begins
 module _ (k : Caps) (l : Ledger) (s : State) (g : Good k s) (a : Agrees k l s) where
   -- the monitor comes to the end of the reckoning's
   pub watch-agrees : (i b c : ℕ) → i < k .monitors → at s WATCHER i ≡ 0 → at s MONITOR-AGE i < OLDEST → (b ≡ 0 → ⊥) →
-      Agrees k (withTies l (ties (l .ties .links) (l .ties .monitors ++ (record { id = idOf 128 (at s MONITOR-AGE i + 1) i; watcher = actorId s (b - 1); target = actorId s (c - 1) } ∷ [])) (l .ties .worn))) (watch s i b c)
+      Agrees k (withTies l (ties (l .ties .links) (l .ties .monitors ++ (record { id = idOf MONITOR-FACTOR (at s MONITOR-AGE i + 1) i; watcher = actorId s (b - 1); target = actorId s (c - 1) } ∷ [])) (l .ties .worn))) (watch s i b c)
   unfolding watch poke with-col
   watch-agrees i b c m u y n =
       monitors-agree k l s (watch s i b c) _ (l .ties .worn) (a .monitors .eyes ++ (i ∷ []))
@@ -418,7 +430,7 @@ module _ (k : Caps) (l : Ledger) (s : State) (g : Good k s) (a : Agrees k l s) w
           let q : eqb e i ≡ false = ne-eqb e i (λ z. f .0 (ap (at s WATCHER) z ∙ u)) in
           rw (other (s MONITOR-AGE) i (at s MONITOR-AGE i + 1) e q, other (s WATCHER) i b e q, other (s WATCHED) i c e q)
 
-      born : monitorAt (watch s i b c) i ≡ record { id = idOf 128 (at s MONITOR-AGE i + 1) i; watcher = actorId s (b - 1); target = actorId s (c - 1) }
+      born : monitorAt (watch s i b c) i ≡ record { id = idOf MONITOR-FACTOR (at s MONITOR-AGE i + 1) i; watcher = actorId s (b - 1); target = actorId s (c - 1) }
       born =
           rw (
             getD-set-same (s MONITOR-AGE) i (at s MONITOR-AGE i + 1) 0 (omega (arith, g .sized .words MONITOR-AGE (lit< tt))),
@@ -431,11 +443,11 @@ pub monitor-agrees : (target : ℕ) → Agreed (monitor target)
 unfolding entered
 monitor-agrees target k s l g a p =
     let i = monitorFor k s in
-    let b = suc (slotOf 64 target) in
+    let b = suc (slotOf ACTOR-FACTOR target) in
     let r = held (isActor s target) (p .1 .1 .0) in
     let m = ltb-true i (k .monitors) (held (ltb i (k .monitors)) (p .1 .1 .1 .0)) in
     let f = of-usable OLDEST (s WATCHER) (s MONITOR-AGE) i (lowest-at (usable OLDEST (s WATCHER) (s MONITOR-AGE)) (k .monitors) m) in
-    let z = both (idOf 128 (at s MONITOR-AGE i + 1) i) (running-is k s g l a (p .0)) (live-is 64 (s STATE) (s AGE) target (omega arith) r ∙ ap (actorId s) (sym (down (slotOf 64 target)))) in
+    let z = both (idOf MONITOR-FACTOR (at s MONITOR-AGE i + 1) i) (running-is k s g l a (p .0)) (live-is ACTOR-FACTOR (s STATE) (s AGE) target (omega arith) r ∙ ap (actorId s) (sym (down (slotOf ACTOR-FACTOR target)))) in
     subst (λ (x : Monitor). Agrees k (withTies l (ties (l .ties .links) (l .ties .monitors ++ (x ∷ [])) (l .ties .worn))) (watch s i (runner s) b)) (sym z)
     (watch-agrees k l s g a i (runner s) b m (f .0) (f .1) (eqb-false (runner s) 0 (p .0)))
   where
@@ -443,25 +455,70 @@ monitor-agrees target k s l g a p =
     both : {i j x y : ℕ} (r : ℕ) → i ≡ x → j ≡ y → _≡_ {A = Monitor} (record { id = r; watcher = i; target = j }) (record { id = r; watcher = x; target = y })
     both r p q = rw (p, q)
 
--- a monitor is refused for want of room exactly where the reckoning says so
-pub monitor-short : (target : ℕ) → Short (monitor target)
-monitor-short target k s l g a =
-    rw (← idle-same k s g l a, ← known-same k s g l a target)
-    (split (eqb (runner s) 0) (λ h. rw h)
-    (λ h. let n : eqb target (l .people .running) ≡ eqb target (runnerId s) = ap (eqb target) (running-is k s g l a h) in
-    rw (h, n) (split (eqb target (runnerId s)) (λ q. rw q)
-    (λ q. rw q (split (isActor s target)
-    (λ r. rw (r, room-same (usable OLDEST (s WATCHER) (s MONITOR-AGE)) (k .monitors) (monitorsLeft l) (monitors-left k s g l a)) (split (eqb (monitorsLeft l) 0) (λ w. rw w) (λ w. rw w)))
-    (λ r. rw r))))))
+-- its tests are the reckoning's
+pub monitor-same : (target : ℕ) → Tested (monitor target)
+monitor-same target k s l g a = (
+  idle-same k s g l a,
+  refl,
+  λ h. (
+    ap (eqb target) (sym (running-is k s g l a h)),
+    refl,
+    λ q. (
+      ap not (known-same k s g l a target),
+      refl,
+      λ u. (full-same (usable OLDEST (s WATCHER) (s MONITOR-AGE)) (k .monitors) (monitorsLeft l) (monitors-left k s g l a), refl, λ z. record {}),
+    ),
+  ),
+)
 
 -- "a monitor or timer only its owner, by its id"
 pub demonitor-agrees : (id : ℕ) → Agreed (demonitor id)
 unfolding entered
 demonitor-agrees id k s l g a p =
-    let mine = eqb (at s WATCHER (slotOf 128 id)) (runner s) in
+    let mine = eqb (at s WATCHER (slotOf MONITOR-FACTOR id)) (runner s) in
     let t = and-left (isMonitor s id) mine (held (isMonitor s id && mine) (p .1 .0)) in
-    let e : id ≡ monitorId s (slotOf 128 id) = live-is 128 (s WATCHER) (s MONITOR-AGE) id (omega arith) t in
-    subst (λ (x : ℕ). Agrees k (endMonitors (λ m. eqb (m .id) x) l) (unwatch s (slotOf 128 id))) (sym e) (unwatch-agrees k l s (slotOf 128 id) g a (monitor-slot k s g id t))
+    let e : id ≡ monitorId s (slotOf MONITOR-FACTOR id) = live-is MONITOR-FACTOR (s WATCHER) (s MONITOR-AGE) id (omega arith) t in
+    subst (λ (x : ℕ). Agrees k (endMonitors (λ m. eqb (m .id) x) l) (unwatch s (slotOf MONITOR-FACTOR id))) (sym e) (unwatch-agrees k l s (slotOf MONITOR-FACTOR id) g a (monitor-slot k s g id t))
+
+-- ---- "a monitor or timer only its owner, by its id": the tests are the reckoning's
+module _ (k : Caps) (l : Ledger) (s : State) (g : Good k s) (a : Agrees k l s) (h : eqb (runner s) 0 ≡ false) where
+  -- a live actor, its slot one up, is the one that runs
+  mine : (x : ℕ) → 1 ≤ x → alive (s STATE) (x - 1) ≡ true → eqb (actorId s (x - 1)) (l .people .running) ≡ eqb x (runner s)
+  mine x m v =
+      let up : suc (runner s - 1) ≡ runner s = omega (arith, eqb-false (runner s) 0 h) in
+      ap (eqb (actorId s (x - 1))) (running-is k s g l a h) ∙ up-id k l s g a x (runner s - 1) m v (runner-alive k s g h) ∙ ap (eqb x) up
+
+  -- an id is that of one of the running actor's own: of timers and of monitors
+  own-same : (F : ℕ) (words ages es : List ℕ) (id : ℕ) → 0 < F → ((i : ℕ) → 0 < occurs i es → i < F) → ((i : ℕ) → 0 < occurs i es → alive (s STATE) (getD words i 0 - 1) ≡ true) → Exact es (λ i. not (unused words i)) →
+      isLive F words ages id && eqb (getD words (slotOf F id) 0) (runner s) ≡ some (λ i. eqb (idOf F (getD ages i 0) i) id && eqb (actorId s (getD words i 0 - 1)) (l .people .running)) es
+  own-same F words ages es id f b v x =
+      let j = slotOf F id in
+      split (isLive F words ages id)
+      (λ q. let d = of-live F words ages id q .0 in
+      let o : 0 < occurs j es = rw (x j, ne-eqb (getD words j 0) 0 d) (omega arith) in
+      ap (λ (y : Bool). isLive F words ages id && y) (sym (mine (getD words j 0) (omega (arith, d)) (v j o))))
+      (λ q. rw q)
+      ∙ sym (live-some F words ages es (λ i. eqb (actorId s (getD words i 0 - 1)) (l .people .running)) id f b x)
+
+-- a timer's
+pub cancel-same : (id : ℕ) → Tested (cancel id)
+cancel-same id k s l g a = (idle-same k s g l a, refl, λ h. (ap not (there h), refl, λ z. record {}))
+  where
+    there : eqb (runner s) 0 ≡ false → isTimer s id && eqb (at s TIMER-OWNER (slotOf TIMER-FACTOR id)) (runner s) ≡ owns l id
+    there h =
+        rw (a .time .timers, some-map (λ t. eqb (t .id) id && eqb (t .owner) (l .people .running)) (timerAt s) (a .time .clocks))
+        (own-same k l s g a h TIMER-FACTOR (s TIMER-OWNER) (s TIMER-AGE) (a .time .clocks) id (omega arith)
+        (λ i o. omega (arith, clock-used k l s s (g .sized) (g .range) a i o .1, g .range .fewTimers)) (λ i o. clock-owner k s g l a i o) (a .time .allClocks))
+
+-- a monitor's
+pub demonitor-same : (id : ℕ) → Tested (demonitor id)
+demonitor-same id k s l g a = (idle-same k s g l a, refl, λ h. (ap not (there h), refl, λ z. record {}))
+  where
+    there : eqb (runner s) 0 ≡ false → isMonitor s id && eqb (at s WATCHER (slotOf MONITOR-FACTOR id)) (runner s) ≡ watches l id
+    there h =
+        rw (a .monitors .monitors, some-map (λ m. eqb (m .id) id && eqb (m .watcher) (l .people .running)) (monitorAt s) (a .monitors .eyes))
+        (own-same k l s g a h MONITOR-FACTOR (s WATCHER) (s MONITOR-AGE) (a .monitors .eyes) id (omega arith)
+        (λ i o. omega (arith, eye-used k l s s g a i o .1, g .range .fewMonitors)) (λ i o. eye-ends k s g l a i o .0) (a .monitors .allEyes))
 
 -- ---- an actor's own monitors and timers end
 module _ (k : Caps) (l : Ledger) (s : State) (g : Good k s) (a : Agrees k l s) (b : ℕ) (h : alive (s STATE) b ≡ true) where

@@ -1,5 +1,5 @@
 -- What the calls do to the tables, action by action. Each is a change of a few columns. Assumes nothing.
-use Prim.Native.Nat.{ℕ, zero, suc, _+_, _-_}
+use Prim.Native.Nat.{ℕ, zero, suc, _-_}
 use mathlib.Core.Bool.{Bool, cond, not, _&&_, _||_}
 use mathlib.Core.List.{List}
 use lib.ListN.{length}
@@ -10,9 +10,10 @@ use Rattle.records.specs.Bytes.{le}
 use Rattle.records.specs.Header.{classOf, tagOf}
 use Rattle.tables.specs.declared.Caps.{Caps}
 use Rattle.tables.specs.Columns.{ARRIVAL, ARRIVED, DATA-FREE, DEADLINE, HAND, LENGTH, MAIL-DATA, MAIL-FREE, MAIL-OWNER, QUEUE, QUEUED, REASON, RUNNING, SENDER, STATE, WANT-CLASS, WANT-SENDER, WANT-TAG}
+use Rattle.tables.specs.Limits.{HEADER-BYTES}
 use Rattle.tables.specs.State.{State, at, head, poke}
 use Rattle.tables.specs.Action.{push, pull, takeBit, freeBit, write, blank}
-use Rattle.rules.specs.Terms.{RUNNABLE, WAITS, fits}
+use Rattle.rules.specs.Terms.{MESSAGE, RUNNABLE, WAITS, fits}
 
 -- ---- running
 -- "Whoever becomes runnable joins the tail of its level"
@@ -46,7 +47,7 @@ hasRoom k s = ltb (mailFor k s) (k .mails) && ltb (dataFor k s) (k .datas)
 -- data entry d is taken, and holds a message
 unfoldable pub fill : State → ℕ → ℕ → ℕ → List ℕ → State
 fill s d sender head payload =
-    write (write (poke (poke (takeBit s DATA-FREE d) SENDER d sender) LENGTH d (length payload)) d 0 (le 4 head)) d 4 payload
+    write (write (poke (poke (takeBit s DATA-FREE d) SENDER d sender) LENGTH d (length payload)) d 0 (le HEADER-BYTES head)) d HEADER-BYTES payload
 
 -- data entry d is freed, and all zero
 unfoldable pub unfill : State → ℕ → State
@@ -69,7 +70,7 @@ hears s a sender head =
 
 -- "A waiting actor becomes runnable, with reason 1, when a message that its filter matches arrives"
 unfoldable pub stir : State → ℕ → ℕ → ℕ → State
-stir s a sender head = cond (hears s a sender head) (wake s a 1) s
+stir s a sender head = cond (hears s a sender head) (wake s a MESSAGE) s
 
 -- a message to slot a, for which there is room
 unfoldable pub post : Caps → State → ℕ → ℕ → ℕ → List ℕ → State

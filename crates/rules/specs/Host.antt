@@ -7,10 +7,11 @@ use lib.ListN.{length, replicate}
 use lib.Dec.{eqb, leb}
 use Rattle.tables.specs.declared.Caps.{Caps}
 use Rattle.tables.specs.Columns.{ACTORS, DATA-FREE, DATAS, LINKS, MAIL-FREE, MAILS, MONITORS, PAST, PAYLOAD, REST, TIMERS}
-use Rattle.tables.specs.State.{State, capsOf, joinP, joinW, needed, neededP, poke, size, view}
+use Rattle.pools.specs.Bits.{WORD-BITS}
+use Rattle.tables.specs.State.{State, capsOf, joinP, joinW, needed, neededP, poke, size, view, Left}
 use Rattle.rules.specs.Rule.{test}
 use Rattle.rules.specs.Sound.{rangeRule, soundRule, viewOf}
-use Rattle.rules.specs.Calls.{Out}
+use Rattle.rules.specs.Calls.{Ans, Entry, Out, refusal, ruled}
 
 -- "Buffers that hold no sound runtime are refused by every call but start": the answer `seven` and nothing changed;
 -- any others give the answer of the rule, and every word and byte is that of the state it leaves
@@ -18,6 +19,14 @@ pub record Called {A : Type 0} (seven : A) (rule : Caps → State → Out A) (w 
   pub ans : r ≡ cond (test (soundRule w p)) (rule (capsOf w) (viewOf w p) .ans) seven
   pub words : w′ ≡ cond (test (soundRule w p)) (joinW (rule (capsOf w) (viewOf w p) .state)) w
   pub bytes : p′ ≡ cond (test (soundRule w p)) (joinP (rule (capsOf w) (viewOf w p) .state)) p
+
+-- THE PROMISE of a call by its entry: the rule where the buffers are sound; else 7, zeros beside it, and nothing changed
+abbrev pub Follows : (e : Entry) → (w p : List ℕ) → Ans (e .shape) → (w′ p′ : List ℕ) → Type 0
+Follows e = Called (refusal (e .shape) 7) (ruled e)
+
+-- what a function inside a call does: on buffers that hold a state, the rule's answer, and the rule's state left
+abbrev pub Gives : {A : Type 0} → (Caps → State → Out A) → Caps → (w p : List ℕ) → A → (w′ p′ : List ℕ) → Type 0
+Gives rule k w p r w′ p′ = (r ≡ rule k (view k w p) .ans) × Left k (rule k (view k w p) .state) w′ p′
 
 -- ---- start
 -- "zeros the needed payload bytes", and every needed word; "Words and bytes past the needed ones are never changed"
@@ -33,7 +42,7 @@ stated k s =
 
 -- "A successful start frees every entry": word j of the free bits of n entries
 abbrev pub ones : ℕ → ℕ → ℕ
-ones n j = 2 ^ min 64 (n - 64 * j) - 1
+ones n j = 2 ^ min WORD-BITS (n - WORD-BITS * j) - 1
 
 unfoldable pub freed : ℕ → ℕ → State → State
 freed c n s = poke (poke (poke (poke s c 0 (ones n 0)) c 1 (ones n 1)) c 2 (ones n 2)) c 3 (ones n 3)

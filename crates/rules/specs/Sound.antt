@@ -1,5 +1,5 @@
 -- What a sound runtime is: the paragraph "Sound means" of document 01, a rule for each of its clauses, with the clause above it. Assumes nothing.
-use Prim.Native.Nat.{ℕ, suc, _+_, _-_, _*_, _^_}
+use Prim.Native.Nat.{ℕ, suc, _+_, _-_, _*_}
 use mathlib.Core.Bool.{not}
 use mathlib.Core.List.{List}
 use mir.Val.{boolByte}
@@ -10,17 +10,19 @@ use Rattle.pools.specs.Bits.{free}
 use Rattle.pools.specs.Slot.{ageOf, slotOf}
 use Rattle.records.specs.Header.{classOf, markOf, tagOf}
 use Rattle.tables.specs.declared.Caps.{Caps}
-use Rattle.tables.specs.Columns.{ACTORS, AGE, ARRIVAL, ARRIVED, CLOCK, DATA-FREE, DATAS, DEADLINE, DUE, HAND, INTERVAL, LENGTH, LINK-ONE, LINK-TWO, LINKS, MAIL-DATA, MAIL-FREE, MAIL-OWNER, MAILS, MONITOR-AGE, MONITORS, PAYLOAD, PRIORITY, QUEUE, QUEUED, REASON, REST, SENDER, STATE, TIMER-AGE, TIMER-OWNER, TIMERS, WANT-CLASS, WANT-SENDER, WANT-TAG, WATCHED, WATCHER}
+use Rattle.tables.specs.Columns.{ACTORS, AGE, ARRIVAL, ARRIVED, CLOCK, DATA-FREE, DATAS, DEADLINE, DUE, HAND, INTERVAL, LENGTH, LINK-ONE, LINK-TWO, LINKS, MAIL-DATA, MAIL-FREE, MAIL-OWNER, MAILS, MONITOR-AGE, MONITORS, PAYLOAD, PRIORITY, QUEUE, QUEUED, REASON, REST, SENDER, SPARE, STATE, TIMER-AGE, TIMER-OWNER, TIMERS, WANT-CLASS, WANT-SENDER, WANT-TAG, WATCHED, WATCHER}
+use Rattle.tables.specs.Sizes.{COLUMN-BITS, SPARES}
+use Rattle.tables.specs.Limits.{ACTOR-FACTOR, ANY-CLASS, ANY-SENDER, ANY-TAG, CLOCK-END, DEADLINE-END, DUE-END, ENTRY-BYTES, HEADER-BYTES, LAST-LEVEL, LONGEST, MOST-ACTORS, MOST-DATAS, MOST-LINKS, MOST-MAILS, MOST-MONITORS, MOST-TIMERS, OLDEST, PAYLOAD-MOST}
 use Rattle.tables.specs.State.{State, at, head, view, capsOf, size, neededP, Room}
 use Rattle.rules.specs.Rule.{Rule, is, le, lt, eq, differ, both, imp, each, Holds}
-use Rattle.rules.specs.Terms.{ANY-CLASS, ANY-SENDER, ANY-TAG, CLOCK-END, FREE, LONGEST, OLDEST, PAYLOAD-MOST, RUNNABLE, RUNS, WAITS, alive, awaits, header, joins, runner}
+use Rattle.rules.specs.Terms.{FREE, RUNNABLE, RUNS, TIMEOUT, WAITS, alive, awaits, header, joins, runner}
 
 -- ---- "capacities .. in range"
 abbrev pub rangeRule : Caps → Rule
 rangeRule k =
-    both (both (both (le 1 (k .actors)) (le (k .actors) 64)) (both (le 1 (k .mails)) (le (k .mails) 256)))
-    (both (both (le 1 (k .datas)) (le (k .datas) 256))
-    (both (le (k .links) 128) (both (le (k .monitors) 128) (le (k .timers) 64))))
+    both (both (both (le 1 (k .actors)) (le (k .actors) MOST-ACTORS)) (both (le 1 (k .mails)) (le (k .mails) MOST-MAILS)))
+    (both (both (le 1 (k .datas)) (le (k .datas) MOST-DATAS))
+    (both (le (k .links) MOST-LINKS) (both (le (k .monitors) MOST-MONITORS) (le (k .timers) MOST-TIMERS))))
 
 -- "or a buffer is too short": every column has all its words, and the payload area all its bytes
 unfoldable pub sizeRule : Caps → State → Rule
@@ -41,13 +43,13 @@ headRule k s =
     (both (le (head s QUEUED) (k .actors)) (le (head s ARRIVED) (k .mails)))
 
 abbrev pub spareRule : State → ℕ → Rule
-spareRule s i = eq (head s (10 + i)) 0
+spareRule s i = eq (at s SPARE i) 0
 
 -- ---- actors
 -- "actor states, priorities, runnable reasons, .. ages (0 only if free) .. in range"; a hand names a data entry
 abbrev pub actorRule : Caps → State → ℕ → Rule
 actorRule k s a =
-    both (both (le (at s STATE a) WAITS) (both (le (at s PRIORITY a) 3) (le (at s REASON a) 2)))
+    both (both (le (at s STATE a) WAITS) (both (le (at s PRIORITY a) LAST-LEVEL) (le (at s REASON a) TIMEOUT)))
     (both (both (le (at s AGE a) OLDEST) (imp (eq (at s AGE a) 0) (eq (at s STATE a) FREE))) (le (at s HAND a) (k .datas)))
 
 -- "unused words are 0; free entries (ages apart) .. are zero": a reason while it is runnable, a filter and a deadline while it waits
@@ -63,7 +65,7 @@ abbrev pub waitRule : State → ℕ → Rule
 waitRule s a =
     both (both (le (at s WANT-SENDER a) ANY-SENDER) (le (at s WANT-TAG a) ANY-TAG))
     (both (both (le (at s WANT-CLASS a) ANY-CLASS) (imp (lt 4 (at s WANT-CLASS a)) (eq (at s WANT-CLASS a) ANY-CLASS)))
-    (imp (differ (at s DEADLINE a) 0) (both (lt (head s CLOCK) (at s DEADLINE a)) (le (at s DEADLINE a) (2 ^ 62 + 2 ^ 41)))))
+    (imp (differ (at s DEADLINE a) 0) (both (lt (head s CLOCK) (at s DEADLINE a)) (le (at s DEADLINE a) DEADLINE-END))))
 
 -- "at most one actor running": the one that the head names
 abbrev pub runRule : State → ℕ → Rule
@@ -116,7 +118,7 @@ unfoldable pub zeros : List ℕ → ℕ → ℕ → Rule
 zeros bytes from n = each n (λ i. eq (getD bytes (from + i) 0) 0)
 
 abbrev pub emptyRule : State → ℕ → Rule
-emptyRule s d = both (both (eq (at s SENDER d) 0) (eq (at s LENGTH d) 0)) (zeros (s PAYLOAD) (256 * d) 256)
+emptyRule s d = both (both (eq (at s SENDER d) 0) (eq (at s LENGTH d) 0)) (zeros (s PAYLOAD) (ENTRY-BYTES * d) ENTRY-BYTES)
 
 -- "headers are class 0 without bit 27, tag below 134,217,727, or class 3 or 4 with it, tag 0"
 abbrev pub headerRule : ℕ → Rule
@@ -133,13 +135,13 @@ lengthRule class length =
 abbrev pub senderRule : List ℕ → ℕ → ℕ → Rule
 senderRule ages class sender =
     both (imp (eq sender 0) (eq class 3))
-    (imp (differ sender 0) (both (le 1 (ageOf 64 sender)) (le (ageOf 64 sender) (getD ages (slotOf 64 sender) 0))))
+    (imp (differ sender 0) (both (le 1 (ageOf ACTOR-FACTOR sender)) (le (ageOf ACTOR-FACTOR sender) (getD ages (slotOf ACTOR-FACTOR sender) 0))))
 
 abbrev pub messageRule : State → ℕ → Rule
 messageRule s d =
     both (both (headerRule (header s d)) (lengthRule (classOf (header s d)) (at s LENGTH d)))
     (both (senderRule (s AGE) (classOf (header s d)) (at s SENDER d))
-    (zeros (s PAYLOAD) (256 * d + (4 + at s LENGTH d)) (252 - at s LENGTH d)))
+    (zeros (s PAYLOAD) (ENTRY-BYTES * d + (HEADER-BYTES + at s LENGTH d)) (PAYLOAD-MOST - at s LENGTH d)))
 
 abbrev pub dataRule : State → ℕ → Rule
 dataRule s d =
@@ -177,7 +179,7 @@ timerRule s i =
     both (ageRule (at s TIMER-OWNER i) (at s TIMER-AGE i))
     (both (imp (eq (at s TIMER-OWNER i) 0) (both (eq (at s DUE i) 0) (eq (at s INTERVAL i) 0)))
     (imp (differ (at s TIMER-OWNER i) 0)
-    (both (is (alive (s STATE) (at s TIMER-OWNER i - 1))) (both (le (at s DUE i) (2 ^ 62 + 2 ^ 32)) (le (at s INTERVAL i) LONGEST)))))
+    (both (is (alive (s STATE) (at s TIMER-OWNER i - 1))) (both (le (at s DUE i) DUE-END) (le (at s INTERVAL i) LONGEST)))))
 
 -- ---- all of them
 -- what is asked of slot a, and of word a of the queue
@@ -192,8 +194,8 @@ boxRule k s e = both (mailRule k s e) (arrivalRule k s e)
 -- the rules that read a word where it stands
 unfoldable pub plainRules : Caps → State → Rule
 plainRules k s =
-    both (both (capsRule k s) (both (headRule k s) (each 6 (λ i. spareRule s i))))
-    (both (both (each 256 (λ e. bitsRule (k .mails) (s MAIL-FREE) e)) (each 256 (λ d. bitsRule (k .datas) (s DATA-FREE) d)))
+    both (both (capsRule k s) (both (headRule k s) (each SPARES (λ i. spareRule s i))))
+    (both (both (each COLUMN-BITS (λ e. bitsRule (k .mails) (s MAIL-FREE) e)) (each COLUMN-BITS (λ d. bitsRule (k .datas) (s DATA-FREE) d)))
     (both (both (each (k .actors) (λ a. slotRule k s a)) (each (k .mails) (λ e. boxRule k s e)))
     (both (both (each (k .datas) (λ d. dataRule s d)) (each (k .links) (λ e. linkRule s e)))
     (both (each (k .monitors) (λ i. monitorRule s i)) (each (k .timers) (λ i. timerRule s i))))))

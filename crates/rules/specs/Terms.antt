@@ -1,5 +1,5 @@
 -- The words of document 01 in terms of the tables. Assumes nothing.
-use Prim.Native.Nat.{ℕ, _-_, _*_, _^_}
+use Prim.Native.Nat.{ℕ, _-_, _*_}
 use mathlib.Core.Bool.{Bool, _&&_, _||_, not}
 use mathlib.Core.List.{List}
 use lib.ListN.{getD}
@@ -8,34 +8,8 @@ use Rattle.pools.specs.Slot.{idOf, isLive, unused}
 use Rattle.records.specs.Bytes.{field}
 use Rattle.records.specs.Header.{classOf, tagOf}
 use Rattle.tables.specs.Columns.{AGE, MONITOR-AGE, PAYLOAD, RUNNING, SENDER, STATE, TIMER-AGE, TIMER-OWNER, WANT-CLASS, WANT-SENDER, WANT-TAG, WATCHER}
+use Rattle.tables.specs.Limits.{ACTOR-FACTOR, ANY-CLASS, ANY-SENDER, ANY-TAG, ENTRY-BYTES, HEADER-BYTES, MONITOR-FACTOR, TIMER-FACTOR}
 use Rattle.tables.specs.State.{State, at, head}
-
--- ---- limits
--- "at most 33,000,000"
-abbrev pub OLDEST : ℕ
-OLDEST = 33000000
-
--- "The clock counts microseconds from 0, at most 2^62"
-abbrev pub CLOCK-END : ℕ
-CLOCK-END = 2 ^ 62
-
--- "a delay of 0 to 2^32 - 1 µs"
-abbrev pub LONGEST : ℕ
-LONGEST = 2 ^ 32 - 1
-
--- "Payloads are 0 to 252 bytes"
-abbrev pub PAYLOAD-MOST : ℕ
-PAYLOAD-MOST = 252
-
--- "with 4,294,967,295, 15 and 134,217,727 for any"
-abbrev pub ANY-SENDER : ℕ
-ANY-SENDER = 4294967295
-
-abbrev pub ANY-CLASS : ℕ
-ANY-CLASS = 15
-
-abbrev pub ANY-TAG : ℕ
-ANY-TAG = 134217727
 
 -- ---- an actor's states, as its word has them
 abbrev pub FREE : ℕ
@@ -50,6 +24,13 @@ RUNS = 2
 abbrev pub WAITS : ℕ
 WAITS = 3
 
+-- ---- why it is runnable: "1 message, 2 timeout"; 0 where it was spawned or has yielded
+abbrev pub MESSAGE : ℕ
+MESSAGE = 1
+
+abbrev pub TIMEOUT : ℕ
+TIMEOUT = 2
+
 -- ---- actors
 -- slot a is in use: a live actor
 unfoldable pub alive : List ℕ → ℕ → Bool
@@ -57,23 +38,23 @@ alive states a = not (unused states a)
 
 -- "An actor or timer id is age × 64 + slot, a monitor id age × 128 + slot"
 abbrev pub actorId : State → ℕ → ℕ
-actorId s a = idOf 64 (at s AGE a) a
+actorId s a = idOf ACTOR-FACTOR (at s AGE a) a
 
 abbrev pub timerId : State → ℕ → ℕ
-timerId s i = idOf 64 (at s TIMER-AGE i) i
+timerId s i = idOf TIMER-FACTOR (at s TIMER-AGE i) i
 
 abbrev pub monitorId : State → ℕ → ℕ
-monitorId s i = idOf 128 (at s MONITOR-AGE i) i
+monitorId s i = idOf MONITOR-FACTOR (at s MONITOR-AGE i) i
 
 -- id is that of a live actor, of a timer, of a monitor
 abbrev pub isActor : State → ℕ → Bool
-isActor s id = isLive 64 (s STATE) (s AGE) id
+isActor s id = isLive ACTOR-FACTOR (s STATE) (s AGE) id
 
 abbrev pub isTimer : State → ℕ → Bool
-isTimer s id = isLive 64 (s TIMER-OWNER) (s TIMER-AGE) id
+isTimer s id = isLive TIMER-FACTOR (s TIMER-OWNER) (s TIMER-AGE) id
 
 abbrev pub isMonitor : State → ℕ → Bool
-isMonitor s id = isLive 128 (s WATCHER) (s MONITOR-AGE) id
+isMonitor s id = isLive MONITOR-FACTOR (s WATCHER) (s MONITOR-AGE) id
 
 -- the slot of the running actor, one up; 0 where none runs
 abbrev pub runner : State → ℕ
@@ -85,7 +66,7 @@ runnerId s = actorId s (runner s - 1)
 -- ---- messages
 -- "A data entry is a four-byte little-endian header and the payload"
 unfoldable pub headerAt : List ℕ → ℕ → ℕ
-headerAt payload d = field 4 (256 * d) payload
+headerAt payload d = field HEADER-BYTES (ENTRY-BYTES * d) payload
 
 abbrev pub header : State → ℕ → ℕ
 header s d = headerAt (s PAYLOAD) d

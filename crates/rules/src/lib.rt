@@ -1,5 +1,7 @@
 // The answers of the host calls. The rules of the calls, and what a sound runtime is, are definitions: see specs/.
 
+pub mod states;
+
 // The number, and the new id.
 #[repr(C)]
 pub struct Made {

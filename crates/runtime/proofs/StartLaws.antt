@@ -1,18 +1,17 @@
 -- Buffers whose needed words and bytes are 0 hold the state of zeros. Assumes nothing.
-use Prim.Native.Nat.{ℕ, zero, suc, _+_, _-_, _*_, _≤_, _<_}
+use Prim.Native.Nat.{ℕ, zero, suc, _+_, _-_, _≤_, _<_}
 use native.Mathlib.Nat.{le-of-suc-le-suc}
 use native.Mathlib.Omega.{arith}
 use mathlib.Core.Path.{_≡_, refl, sym, ap, _∙_, fun-ext}
-use mathlib.Core.Bool.{true, false, cond}
 use mathlib.Core.List.{List, [], _∷_, _++_, append-assoc}
 use lib.ListN.{length, getD, take, drop, replicate, length-replicate, replicate-append-replicate, List·getD-eq-default}
 use lib.Seq.{sets, sets-eq, take-at, drop-at, length-sets, drop-drop}
 use lib.Dec.{eqb, ltb}
-use borrow.Author.Tests.{eq-eqb, ne-eqb, lt-ltb, le-ltb, ltb-true, ltb-false, eqb-true, eqb-false}
+use borrow.Author.Tests.{ne-eqb, lt-ltb, le-ltb, ltb-true, ltb-false, eqb-true, eqb-false}
 use Rattle.pools.proofs.BoolLaws.{split}
 use Rattle.tables.specs.declared.Caps.{Caps}
 use Rattle.tables.specs.Columns.{PAST, PAYLOAD, REST}
-use Rattle.tables.specs.State.{State, cut, needed, neededP, size, sizes, sizesP, sum, view, Room}
+use Rattle.tables.specs.State.{cut, needed, neededP, sizes, sizesP, sum, view, Room}
 use Rattle.tables.proofs.RowLaws.{cut-past}
 use Rattle.tables.proofs.ViewLaws.{needed-sum}
 use Rattle.rules.specs.Host.{zeroed}

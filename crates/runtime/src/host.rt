@@ -1,8 +1,6 @@
 // The host calls. Each tests the buffers, refuses unsound ones with 7, and else does what its rule says. None asks anything of its caller.
-ghost use mathlib.Core.Path.{_≡_};
-ghost use Rattle.rules.specs.Calls.{advanceRule, afterRule, cancelRule, demonitorRule, everyRule, exitRule, linkRule, monitorRule, nextRule, notifyRule, receiveRule, reportRule, shownRule, spawnRule, unlinkRule, yieldRule};
-ghost use Rattle.rules.specs.Host.{Called};
-ghost use Rattle.rules.specs.Story.{noAdvanced, noEnded, noMade, noReceived, noReport, noShown, noTurn};
+ghost use Rattle.rules.specs.Calls.{advanceEntry, afterEntry, cancelEntry, demonitorEntry, everyEntry, exitEntry, linkEntry, monitorEntry, nextEntry, notifyEntry, receiveEntry, reportEntry, shownEntry, spawnEntry, unlinkEntry, yieldEntry};
+ghost use Rattle.rules.specs.Host.{Follows};
 use calls::messages::notify_in;
 use calls::messages::shown_in;
 use calls::receiving::receive_in;
@@ -32,7 +30,7 @@ use tables::layout::caps_of;
 // A new actor at a priority from 0 (first) to 3: 0 and its id. 1: no such priority; 2: no slot.
 #[no_mangle]
 pub extern "C" fn fg_spawn(t: &mut [u64], p: &mut [u8], priority: u64) -> Made
-    ensures { λ r. ⌜ Called noMade (spawnRule priority) (now (t .entry)) (now (p .entry)) r (now (t .exit)) (now (p .exit)) ⌝ }
+    ensures { λ r. ⌜ Follows (spawnEntry priority) (now (t .entry)) (now (p .entry)) r (now (t .exit)) (now (p .exit)) ⌝ }
 {
     if sound(t, p) {
         return spawn_in(t, p, caps_of(t), priority);
@@ -43,7 +41,7 @@ pub extern "C" fn fg_spawn(t: &mut [u64], p: &mut [u8], priority: u64) -> Made
 // The actor whose turn it is now runs: 0, its id and why it was runnable. 4: one runs already; 6: none is runnable, with the time to sleep.
 #[no_mangle]
 pub extern "C" fn fg_next(t: &mut [u64], p: &mut [u8]) -> Turn
-    ensures { λ r. ⌜ Called noTurn nextRule (now (t .entry)) (now (p .entry)) r (now (t .exit)) (now (p .exit)) ⌝ }
+    ensures { λ r. ⌜ Follows nextEntry (now (t .entry)) (now (p .entry)) r (now (t .exit)) (now (p .exit)) ⌝ }
 {
     if sound(t, p) {
         return next_in(t, p, caps_of(t));
@@ -59,7 +57,7 @@ pub extern "C" fn fg_next(t: &mut [u64], p: &mut [u8]) -> Turn
 // The running actor goes to the tail of its level. 4: nobody runs.
 #[no_mangle]
 pub extern "C" fn fg_yield(t: &mut [u64], p: &mut [u8]) -> u64
-    ensures { λ r. ⌜ Called 7 yieldRule (now (t .entry)) (now (p .entry)) r (now (t .exit)) (now (p .exit)) ⌝ }
+    ensures { λ r. ⌜ Follows yieldEntry (now (t .entry)) (now (p .entry)) r (now (t .exit)) (now (p .exit)) ⌝ }
 {
     if sound(t, p) {
         return yield_in(t, p, caps_of(t));
@@ -76,7 +74,7 @@ pub extern "C" fn fg_notify(
     tag: u64,
     payload: &[u8],
 ) -> u64
-    ensures { λ r. ⌜ Called 7 (notifyRule target tag (now (payload .entry))) (now (t .entry)) (now (p .entry)) r (now (t .exit)) (now (p .exit)) ⌝ }
+    ensures { λ r. ⌜ Follows (notifyEntry target tag (now (payload .entry))) (now (t .entry)) (now (p .entry)) r (now (t .exit)) (now (p .exit)) ⌝ }
 {
     if sound(t, p) {
         return notify_in(t, p, caps_of(t), target, tag, payload);
@@ -94,7 +92,7 @@ pub extern "C" fn fg_receive(
     tag: u64,
     wait: i64,
 ) -> Received
-    ensures { λ r. ⌜ Called noReceived (receiveRule sender class tag wait) (now (t .entry)) (now (p .entry)) r (now (t .exit)) (now (p .exit)) ⌝ }
+    ensures { λ r. ⌜ Follows (receiveEntry sender class tag wait) (now (t .entry)) (now (p .entry)) r (now (t .exit)) (now (p .exit)) ⌝ }
 {
     if sound(t, p) {
         return receive_in(t, p, caps_of(t), sender, class, tag, wait);
@@ -111,7 +109,7 @@ pub extern "C" fn fg_receive(
 // Where the payload in hand lies in the payload area. 4: nobody runs; 3: nothing in hand.
 #[no_mangle]
 pub extern "C" fn fg_shown(t: &mut [u64], p: &mut [u8]) -> Shown
-    ensures { λ r. ⌜ Called noShown shownRule (now (t .entry)) (now (p .entry)) r (now (t .exit)) (now (p .exit)) ⌝ }
+    ensures { λ r. ⌜ Follows shownEntry (now (t .entry)) (now (p .entry)) r (now (t .exit)) (now (p .exit)) ⌝ }
 {
     if sound(t, p) {
         return shown_in(t, p, caps_of(t));
@@ -126,7 +124,7 @@ pub extern "C" fn fg_shown(t: &mut [u64], p: &mut [u8]) -> Shown
 // A one-shot timer: 0 and its id. 4: nobody runs; 1: such a delay is malformed; 2: no room.
 #[no_mangle]
 pub extern "C" fn fg_after(t: &mut [u64], p: &mut [u8], delay: u64) -> Made
-    ensures { λ r. ⌜ Called noMade (afterRule delay) (now (t .entry)) (now (p .entry)) r (now (t .exit)) (now (p .exit)) ⌝ }
+    ensures { λ r. ⌜ Follows (afterEntry delay) (now (t .entry)) (now (p .entry)) r (now (t .exit)) (now (p .exit)) ⌝ }
 {
     if sound(t, p) {
         return after_in(t, p, caps_of(t), delay);
@@ -137,7 +135,7 @@ pub extern "C" fn fg_after(t: &mut [u64], p: &mut [u8], delay: u64) -> Made
 // A periodic timer: 0 and its id. 4: nobody runs; 1: such an interval is malformed; 2: no room.
 #[no_mangle]
 pub extern "C" fn fg_every(t: &mut [u64], p: &mut [u8], interval: u64) -> Made
-    ensures { λ r. ⌜ Called noMade (everyRule interval) (now (t .entry)) (now (p .entry)) r (now (t .exit)) (now (p .exit)) ⌝ }
+    ensures { λ r. ⌜ Follows (everyEntry interval) (now (t .entry)) (now (p .entry)) r (now (t .exit)) (now (p .exit)) ⌝ }
 {
     if sound(t, p) {
         return every_in(t, p, caps_of(t), interval);
@@ -148,7 +146,7 @@ pub extern "C" fn fg_every(t: &mut [u64], p: &mut [u8], interval: u64) -> Made
 // A timer of the caller ends. 4: nobody runs; 3: no such timer of the caller.
 #[no_mangle]
 pub extern "C" fn fg_cancel(t: &mut [u64], p: &mut [u8], id: u64) -> u64
-    ensures { λ r. ⌜ Called 7 (cancelRule id) (now (t .entry)) (now (p .entry)) r (now (t .exit)) (now (p .exit)) ⌝ }
+    ensures { λ r. ⌜ Follows (cancelEntry id) (now (t .entry)) (now (p .entry)) r (now (t .exit)) (now (p .exit)) ⌝ }
 {
     if sound(t, p) {
         return cancel_in(t, p, caps_of(t), id);
@@ -159,7 +157,7 @@ pub extern "C" fn fg_cancel(t: &mut [u64], p: &mut [u8], id: u64) -> u64
 // A link with an actor; one that is there already stays. 4: nobody runs; 1: oneself; 3: no such actor; 2: no room.
 #[no_mangle]
 pub extern "C" fn fg_link(t: &mut [u64], p: &mut [u8], partner: u64) -> u64
-    ensures { λ r. ⌜ Called 7 (linkRule partner) (now (t .entry)) (now (p .entry)) r (now (t .exit)) (now (p .exit)) ⌝ }
+    ensures { λ r. ⌜ Follows (linkEntry partner) (now (t .entry)) (now (p .entry)) r (now (t .exit)) (now (p .exit)) ⌝ }
 {
     if sound(t, p) {
         return link_in(t, p, caps_of(t), partner);
@@ -170,7 +168,7 @@ pub extern "C" fn fg_link(t: &mut [u64], p: &mut [u8], partner: u64) -> u64
 // A link is taken back. 4: nobody runs; 3: there is none.
 #[no_mangle]
 pub extern "C" fn fg_unlink(t: &mut [u64], p: &mut [u8], partner: u64) -> u64
-    ensures { λ r. ⌜ Called 7 (unlinkRule partner) (now (t .entry)) (now (p .entry)) r (now (t .exit)) (now (p .exit)) ⌝ }
+    ensures { λ r. ⌜ Follows (unlinkEntry partner) (now (t .entry)) (now (p .entry)) r (now (t .exit)) (now (p .exit)) ⌝ }
 {
     if sound(t, p) {
         return unlink_in(t, p, caps_of(t), partner);
@@ -181,7 +179,7 @@ pub extern "C" fn fg_unlink(t: &mut [u64], p: &mut [u8], partner: u64) -> u64
 // The caller watches an actor: 0 and the id of the monitor. 4: nobody runs; 1: oneself; 3: no such actor; 2: no room.
 #[no_mangle]
 pub extern "C" fn fg_monitor(t: &mut [u64], p: &mut [u8], target: u64) -> Made
-    ensures { λ r. ⌜ Called noMade (monitorRule target) (now (t .entry)) (now (p .entry)) r (now (t .exit)) (now (p .exit)) ⌝ }
+    ensures { λ r. ⌜ Follows (monitorEntry target) (now (t .entry)) (now (p .entry)) r (now (t .exit)) (now (p .exit)) ⌝ }
 {
     if sound(t, p) {
         return monitor_in(t, p, caps_of(t), target);
@@ -192,7 +190,7 @@ pub extern "C" fn fg_monitor(t: &mut [u64], p: &mut [u8], target: u64) -> Made
 // A monitor of the caller is taken back. 4: nobody runs; 3: no such monitor of the caller.
 #[no_mangle]
 pub extern "C" fn fg_demonitor(t: &mut [u64], p: &mut [u8], id: u64) -> u64
-    ensures { λ r. ⌜ Called 7 (demonitorRule id) (now (t .entry)) (now (p .entry)) r (now (t .exit)) (now (p .exit)) ⌝ }
+    ensures { λ r. ⌜ Follows (demonitorEntry id) (now (t .entry)) (now (p .entry)) r (now (t .exit)) (now (p .exit)) ⌝ }
 {
     if sound(t, p) {
         return demonitor_in(t, p, caps_of(t), id);
@@ -203,7 +201,7 @@ pub extern "C" fn fg_demonitor(t: &mut [u64], p: &mut [u8], id: u64) -> u64
 // The running actor ends: 0, and how many notices were sent and lost. 4: nobody runs; 1: such a reason is malformed.
 #[no_mangle]
 pub extern "C" fn fg_exit(t: &mut [u64], p: &mut [u8], reason: u64) -> Ended
-    ensures { λ r. ⌜ Called noEnded (exitRule reason) (now (t .entry)) (now (p .entry)) r (now (t .exit)) (now (p .exit)) ⌝ }
+    ensures { λ r. ⌜ Follows (exitEntry reason) (now (t .entry)) (now (p .entry)) r (now (t .exit)) (now (p .exit)) ⌝ }
 {
     if sound(t, p) {
         return exit_in(t, p, caps_of(t), reason);
@@ -218,7 +216,7 @@ pub extern "C" fn fg_exit(t: &mut [u64], p: &mut [u8], reason: u64) -> Ended
 // The clock goes on by some microseconds: 0, and how many timers fired. 1: malformed.
 #[no_mangle]
 pub extern "C" fn fg_advance(t: &mut [u64], p: &mut [u8], micros: u64) -> Advanced
-    ensures { λ r. ⌜ Called noAdvanced (advanceRule micros) (now (t .entry)) (now (p .entry)) r (now (t .exit)) (now (p .exit)) ⌝ }
+    ensures { λ r. ⌜ Follows (advanceEntry micros) (now (t .entry)) (now (p .entry)) r (now (t .exit)) (now (p .exit)) ⌝ }
 {
     if sound(t, p) {
         return advance_in(t, p, caps_of(t), micros);
@@ -229,7 +227,7 @@ pub extern "C" fn fg_advance(t: &mut [u64], p: &mut [u8], micros: u64) -> Advanc
 // The free entries of the six pools.
 #[no_mangle]
 pub extern "C" fn fg_report(t: &mut [u64], p: &mut [u8]) -> Report
-    ensures { λ r. ⌜ Called noReport reportRule (now (t .entry)) (now (p .entry)) r (now (t .exit)) (now (p .exit)) ⌝ }
+    ensures { λ r. ⌜ Follows reportEntry (now (t .entry)) (now (p .entry)) r (now (t .exit)) (now (p .exit)) ⌝ }
 {
     if sound(t, p) {
         return report_in(t, p, caps_of(t));

@@ -4,8 +4,10 @@ ghost use Prim.Native.Nat.{_≤_, _<_};
 ghost use lib.ListN.{length, replicate};
 ghost use lib.Seq.{sets};
 ghost use Rattle.tables.specs.Columns.{REST};
-ghost use Rattle.tables.specs.State.{view, needed, Room, Left};
+ghost use Rattle.tables.specs.Sizes.{BIT-WORDS};
+ghost use Rattle.tables.specs.State.{view, Room, Left};
 ghost use Rattle.rules.specs.Host.{Started, ones, zeroed, stated, freed, fresh};
+use pools::bits::WORD_BITS;
 use sound::fits;
 use tables::Caps;
 use tables::columns::ACTORS;
@@ -16,6 +18,8 @@ use tables::columns::MAIL_FREE;
 use tables::columns::MAILS;
 use tables::columns::MONITORS;
 use tables::columns::TIMERS;
+use tables::layout::bytes_needed;
+use tables::layout::words_needed;
 use tables::payload::zero;
 use tables::words::put;
 
@@ -31,21 +35,13 @@ fn zero_words(t: &mut [u64], n: usize)
     }
 }
 
-// How many words the capacities need.
-fn words_needed(k: Caps) -> usize
-    requires { ⌜ needed k ≤ 4096 ⌝ }
-    ensures { λ r. ⌜ r ≡ needed k ⌝ }
-{
-    24 + k.actors * 10 + k.mails * 3 + k.datas * 2 + k.links * 2 + k.monitors * 3 + k.timers * 4
-}
-
 // Every needed word and byte is 0.
 fn clear(t: &mut [u64], p: &mut [u8], k: Caps)
     requires { ⌜ Room k (now t) (now p) ⌝ }
     ensures { λ _. ⌜ Left k (zeroed k (view k (now (t .entry)) (now (p .entry)))) (now (t .exit)) (now (p .exit)) ⌝ }
 {
     zero_words(t, words_needed(k));
-    zero(p, 0, 256 * k.datas);
+    zero(p, 0, bytes_needed(k));
 }
 
 // The head states the capacities.
@@ -63,15 +59,15 @@ fn state_caps(t: &mut [u64], p: &[u8], k: Caps)
 
 // Word j of the free bits of n entries, all free.
 fn ones_at(n: usize, j: usize) -> u64
-    requires { ⌜ j < 4 ⌝ }
+    requires { ⌜ j < BIT-WORDS ⌝ }
     ensures { λ r. ⌜ r ≡ ones n j ⌝ }
 {
-    let from = 64 * j;
+    let from = WORD_BITS * j;
     if n <= from {
         return 0;
     }
     let m = n - from;
-    if 64 <= m {
+    if WORD_BITS <= m {
         return 0xffff_ffff_ffff_ffff;
     }
     (1 << m) - 1

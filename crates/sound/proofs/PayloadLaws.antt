@@ -16,6 +16,7 @@ use Rattle.rules.specs.Terms.{header, headerAt}
 use Rattle.rules.proofs.RuleLaws.{all-same}
 use Rattle.tables.specs.declared.Caps.{Caps}
 use Rattle.tables.specs.Columns.{PAYLOAD}
+use Rattle.tables.specs.Limits.{ENTRY-BYTES, HEADER-BYTES}
 use Rattle.tables.specs.State.{view, cut}
 
 -- ---- bytes joined by OR are zero where both are
@@ -35,21 +36,21 @@ part-inside (suc m) n (suc N) (x ∷ l) h = part-inside m n N l (omega arith)
 
 module _ (k : Caps) (w p : List ℕ) where
   -- the header of a data entry, in the buffer; there is none past the last
-  pub header-in : (d : ℕ) → d < k .datas → field 4 (256 * d) p ≡ header (view k w p) d
+  pub header-in : (d : ℕ) → d < k .datas → field HEADER-BYTES (ENTRY-BYTES * d) p ≡ header (view k w p) d
   unfolding view cut headerAt
-  header-in d h = ap ofLe (sym (part-inside (256 * d) 4 (256 * k .datas) p (omega arith)))
+  header-in d h = ap ofLe (sym (part-inside (ENTRY-BYTES * d) 4 (ENTRY-BYTES * k .datas) p (omega arith)))
 
   pub header-out : (d : ℕ) → k .datas ≤ d → 0 ≡ header (view k w p) d
   unfolding view cut headerAt
   header-out d h =
-      let l = take (256 * k .datas) p in
-      let e : drop (256 * d) l ≡ [] = drop-of-length-le l {i = 256 * d} (rw (length-take (256 * k .datas) p) (omega arith)) in
+      let l = take (ENTRY-BYTES * k .datas) p in
+      let e : drop (ENTRY-BYTES * d) l ≡ [] = drop-of-length-le l {i = ENTRY-BYTES * d} (rw (length-take (ENTRY-BYTES * k .datas) p) (omega arith)) in
       ap (λ x. ofLe (take 4 x)) (sym e)
 
   -- a run of zeros, in the buffer
-  pub zeros-in : (from n : ℕ) → from + n ≤ 256 * k .datas → test (zeros p from n) ≡ test (zeros (view k w p PAYLOAD) from n)
+  pub zeros-in : (from n : ℕ) → from + n ≤ ENTRY-BYTES * k .datas → test (zeros p from n) ≡ test (zeros (view k w p PAYLOAD) from n)
   unfolding zeros view cut
-  zeros-in from n h = all-same n _ _ (λ i l. ap (λ x. eqb x 0) (sym (getD-take (256 * k .datas) p (from + i) 0 (omega arith))))
+  zeros-in from n h = all-same n _ _ (λ i l. ap (λ x. eqb x 0) (sym (getD-take (ENTRY-BYTES * k .datas) p (from + i) 0 (omega arith))))
 
 -- ---- a rule of two parts, of which a test says which one counts
 pub pick-yes : {b x : Bool} (y : Bool) {r : Bool} → b ≡ true → r ≡ x → r ≡ (not b || x) && (not (not b) || y)

@@ -2,6 +2,7 @@
 use Prim.Native.Nat.{ℕ}
 use Rattle.tables.specs.declared.Caps.{Caps}
 use Rattle.tables.specs.Columns.{DATA-FREE, DEADLINE, MAIL-FREE, WANT-CLASS, WANT-SENDER, WANT-TAG}
+use Rattle.tables.specs.Sizes.{COLUMN-BITS, SPARES}
 use Rattle.tables.specs.State.{State, at}
 use Rattle.rules.specs.Rule.{Rule, eq, both, each}
 use Rattle.rules.specs.Sound.{capsRule, headRule, spareRule, bitsRule, slotRule, boxRule, dataRule, linkRule, monitorRule, timerRule, pairRule, filterRule}
@@ -24,9 +25,9 @@ ruleAt k s Filter i = filterRule s i
 
 -- how many there are of a kind
 abbrev pub entries : Caps → Kind → ℕ
-entries k Spare = 6
-entries k MailBit = 256
-entries k DataBit = 256
+entries k Spare = SPARES
+entries k MailBit = COLUMN-BITS
+entries k DataBit = COLUMN-BITS
 entries k Slot = k .actors
 entries k Box = k .mails
 entries k Data = k .datas
@@ -43,10 +44,10 @@ restRule s a =
 
 -- ---- the parts of the plain rules
 abbrev pub frontRules : Caps → State → Rule
-frontRules k s = both (capsRule k s) (both (headRule k s) (each 6 (λ i. spareRule s i)))
+frontRules k s = both (capsRule k s) (both (headRule k s) (each SPARES (λ i. spareRule s i)))
 
 abbrev pub bitRules : Caps → State → Rule
-bitRules k s = both (each 256 (λ e. bitsRule (k .mails) (s MAIL-FREE) e)) (each 256 (λ d. bitsRule (k .datas) (s DATA-FREE) d))
+bitRules k s = both (each COLUMN-BITS (λ e. bitsRule (k .mails) (s MAIL-FREE) e)) (each COLUMN-BITS (λ d. bitsRule (k .datas) (s DATA-FREE) d))
 
 abbrev pub boxRules : Caps → State → Rule
 boxRules k s = both (each (k .actors) (λ a. slotRule k s a)) (each (k .mails) (λ e. boxRule k s e))

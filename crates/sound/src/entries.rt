@@ -6,8 +6,15 @@ ghost use Rattle.rules.specs.Rule.{test};
 ghost use Rattle.rules.specs.Sound.{spareRule, actorRule, idleRule, waitRule, runRule, listRule, slotRule, mailRule, boxRule, bitsRule, endsRule, linkRule, ageRule, monitorRule, timerRule};
 ghost use Rattle.rules.specs.Terms.{alive};
 ghost use Rattle.sound.specs.Kinds.{restRule};
+ghost use Rattle.tables.specs.Limits.{MOST-ACTORS};
 ghost use Rattle.tables.specs.State.{head, view, Room};
 ghost use Rattle.tables.specs.Columns.{REST, STATE};
+use pools::bits::WORD_BITS;
+use rules::states::FREE;
+use rules::states::RUNNABLE;
+use rules::states::RUNS;
+use rules::states::TIMEOUT;
+use rules::states::WAITS;
 use tables::Caps;
 use tables::columns::AGE;
 use tables::columns::ARRIVAL;
@@ -37,6 +44,14 @@ use tables::columns::WANT_SENDER;
 use tables::columns::WANT_TAG;
 use tables::columns::WATCHED;
 use tables::columns::WATCHER;
+use tables::limits::ANY_CLASS;
+use tables::limits::ANY_SENDER;
+use tables::limits::ANY_TAG;
+use tables::limits::DEADLINE_END;
+use tables::limits::DUE_END;
+use tables::limits::LAST_LEVEL;
+use tables::limits::LONGEST;
+use tables::limits::OLDEST;
 use tables::words::get;
 
 // One less, and 0 of 0: the slot or the entry that a word names.
@@ -51,8 +66,8 @@ pub fn bit_free(t: &[u64], p: &[u8], k: Caps, c: usize, e: u64) -> bool
     requires { ⌜ Room k (now t) (now p) × (c < REST) ⌝ }
     ensures { λ r. ⌜ r ≡ free (view k (now (t .entry)) (now (p .entry)) c) e ⌝ }
 {
-    let word = get(t, p, k, c, e / 64);
-    (word >> (e % 64)) % 2 == 1
+    let word = get(t, p, k, c, e / (WORD_BITS as u64));
+    (word >> (e % (WORD_BITS as u64))) % 2 == 1
 }
 
 // Is slot a a live actor's?
@@ -65,10 +80,10 @@ pub fn is_alive(t: &[u64], p: &[u8], k: Caps, a: u64) -> bool
 
 // ---- the head and the free bits
 pub fn spare_ok(t: &[u64], p: &[u8], k: Caps, i: u64) -> bool
-    requires { ⌜ Room k (now t) (now p) × (i < 6) ⌝ }
+    requires { ⌜ Room k (now t) (now p) ⌝ }
     ensures { λ r. ⌜ r ≡ test (spareRule (view k (now (t .entry)) (now (p .entry))) i) ⌝ }
 {
-    get(t, p, k, SPARE + (i as usize), 0) == 0
+    get(t, p, k, SPARE, i) == 0
 }
 
 // Bit e of the bits in column c, which has n entries.
@@ -90,8 +105,8 @@ fn actor_ok(t: &[u64], p: &[u8], k: Caps, a: u64) -> bool
     let reason = get(t, p, k, REASON, a);
     let age = get(t, p, k, AGE, a);
     let hand = get(t, p, k, HAND, a);
-    ((state <= 3) & ((priority <= 3) & (reason <= 2)))
-        & (((age <= 33_000_000) & (!(age == 0) | (state == 0))) & (hand <= (k.datas as u64)))
+    ((state <= WAITS) & ((priority <= LAST_LEVEL) & (reason <= TIMEOUT)))
+        & (((age <= OLDEST) & (!(age == 0) | (state == FREE))) & (hand <= (k.datas as u64)))
 }
 
 // What slot a wants and its deadline are unset.
@@ -115,8 +130,8 @@ fn idle_ok(t: &[u64], p: &[u8], k: Caps, a: u64) -> bool
     let reason = get(t, p, k, REASON, a);
     let hand = get(t, p, k, HAND, a);
     let rests = wants_nothing(t, p, k, a);
-    (!(state == 0) | ((priority == 0) & (hand == 0)))
-        & ((!!(state == 1) | (reason == 0)) & (!!(state == 3) | rests))
+    (!(state == FREE) | ((priority == 0) & (hand == 0)))
+        & ((!!(state == RUNNABLE) | (reason == 0)) & (!!(state == WAITS) | rests))
 }
 
 fn wait_ok(t: &[u64], p: &[u8], k: Caps, a: u64) -> bool
@@ -128,18 +143,18 @@ fn wait_ok(t: &[u64], p: &[u8], k: Caps, a: u64) -> bool
     let tag = get(t, p, k, WANT_TAG, a);
     let deadline = get(t, p, k, DEADLINE, a);
     let clock = get(t, p, k, CLOCK, 0);
-    ((sender <= 4_294_967_295) & (tag <= 134_217_727))
-        & (((class <= 15) & (!(4 < class) | (class == 15)))
-            & (!!(deadline == 0) | ((clock < deadline) & (deadline <= 0x4000_0200_0000_0000))))
+    ((sender <= ANY_SENDER) & (tag <= ANY_TAG))
+        & (((class <= ANY_CLASS) & (!(4 < class) | (class == ANY_CLASS)))
+            & (!!(deadline == 0) | ((clock < deadline) & (deadline <= DEADLINE_END))))
 }
 
 fn run_ok(t: &[u64], p: &[u8], k: Caps, a: u64) -> bool
-    requires { ⌜ Room k (now t) (now p) × (a < 64) ⌝ }
+    requires { ⌜ Room k (now t) (now p) × (a < MOST-ACTORS) ⌝ }
     ensures { λ r. ⌜ r ≡ test (runRule (view k (now (t .entry)) (now (p .entry))) a) ⌝ }
 {
     let state = get(t, p, k, STATE, a);
     let runner = get(t, p, k, RUNNING, 0);
-    ((state == 2) as u64) == ((runner == a + 1) as u64)
+    ((state == RUNS) as u64) == ((runner == a + 1) as u64)
 }
 
 // Word i of the list in column c, whose length is the word of the column `count`, and whose entries are below n.
@@ -153,7 +168,7 @@ fn list_ok(t: &[u64], p: &[u8], k: Caps, c: usize, count: usize, n: usize, i: u6
 }
 
 pub fn slot_ok(t: &[u64], p: &[u8], k: Caps, a: u64) -> bool
-    requires { ⌜ Room k (now t) (now p) × (a < 64) ⌝ }
+    requires { ⌜ Room k (now t) (now p) × (a < MOST-ACTORS) ⌝ }
     ensures { λ r. ⌜ r ≡ test (slotRule k (view k (now (t .entry)) (now (p .entry))) a) ⌝ }
 {
     let actor = actor_ok(t, p, k, a);
@@ -211,7 +226,7 @@ pub fn link_ok(t: &[u64], p: &[u8], k: Caps, e: u64) -> bool
 fn age_ok(word: u64, age: u64) -> bool
     ensures { λ r. ⌜ r ≡ test (ageRule word age) ⌝ }
 {
-    (age <= 33_000_000) & (!!(word == 0) | (1 <= age))
+    (age <= OLDEST) & (!!(word == 0) | (1 <= age))
 }
 
 pub fn monitor_ok(t: &[u64], p: &[u8], k: Caps, i: u64) -> bool
@@ -238,6 +253,5 @@ pub fn timer_ok(t: &[u64], p: &[u8], k: Caps, i: u64) -> bool
     let aged = age_ok(owner, age);
     aged
         & ((!(owner == 0) | ((due == 0) & (interval == 0)))
-            & (!!(owner == 0)
-                | (lives & ((due <= 0x4000_0001_0000_0000) & (interval <= 4_294_967_295)))))
+            & (!!(owner == 0) | (lives & ((due <= DUE_END) & (interval <= LONGEST)))))
 }

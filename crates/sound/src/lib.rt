@@ -16,7 +16,18 @@ use tables::columns::MONITORS;
 use tables::columns::QUEUED;
 use tables::columns::RUNNING;
 use tables::columns::TIMERS;
+use tables::layout::bytes_needed;
 use tables::layout::caps_of;
+use tables::layout::words_needed;
+use tables::limits::CLOCK_END;
+use tables::limits::MOST_ACTORS;
+use tables::limits::MOST_DATAS;
+use tables::limits::MOST_LINKS;
+use tables::limits::MOST_MAILS;
+use tables::limits::MOST_MONITORS;
+use tables::limits::MOST_TIMERS;
+use tables::sizes::COLUMN_BITS;
+use tables::sizes::SPARES;
 use tables::words::get;
 use tallies::arrived_ok;
 use tallies::held_ok;
@@ -53,23 +64,19 @@ pub enum Listed {
 fn ranged(k: Caps) -> bool
     ensures { λ r. ⌜ r ≡ test (rangeRule k) ⌝ }
 {
-    (((1 <= k.actors) & (k.actors <= 64)) & ((1 <= k.mails) & (k.mails <= 256)))
-        & (((1 <= k.datas) & (k.datas <= 256))
-            & ((k.links <= 128) & ((k.monitors <= 128) & (k.timers <= 64))))
+    (((1 <= k.actors) & (k.actors <= MOST_ACTORS)) & ((1 <= k.mails) & (k.mails <= MOST_MAILS)))
+        & (((1 <= k.datas) & (k.datas <= MOST_DATAS))
+            & ((k.links <= MOST_LINKS)
+                & ((k.monitors <= MOST_MONITORS) & (k.timers <= MOST_TIMERS))))
 }
 
 fn sized(t: &[u64], p: &[u8], k: Caps) -> bool
     requires { ⌜ Holds (rangeRule k) ⌝ }
     ensures { λ r. ⌜ r ≡ test (sizeRule k (view k (now (t .entry)) (now (p .entry)))) ⌝ }
 {
-    let words = 24
-        + k.actors * 10
-        + k.mails * 3
-        + k.datas * 2
-        + k.links * 2
-        + k.monitors * 3
-        + k.timers * 4;
-    (words <= t.len()) & (256 * k.datas <= p.len())
+    let words = words_needed(k);
+    let bytes = bytes_needed(k);
+    (words <= t.len()) & (bytes <= p.len())
 }
 
 pub fn fits(t: &[u64], p: &[u8], k: Caps) -> bool
@@ -105,7 +112,7 @@ fn head_ok(t: &[u64], p: &[u8], k: Caps) -> bool
     let runner = get(t, p, k, RUNNING, 0);
     let queued = get(t, p, k, QUEUED, 0);
     let arrived = get(t, p, k, ARRIVED, 0);
-    ((clock <= 0x4000_0000_0000_0000) & (runner <= (k.actors as u64)))
+    ((clock <= CLOCK_END) & (runner <= (k.actors as u64)))
         & ((queued <= (k.actors as u64)) & (arrived <= (k.mails as u64)))
 }
 
@@ -115,7 +122,7 @@ fn front_ok(t: &[u64], p: &[u8], k: Caps) -> bool
 {
     let caps = caps_ok(t, p, k);
     let head = head_ok(t, p, k);
-    let spare = every(t, p, k, Kind::Spare, 6);
+    let spare = every(t, p, k, Kind::Spare, SPARES as u64);
     caps & (head & spare)
 }
 
@@ -123,8 +130,8 @@ fn all_bits_ok(t: &[u64], p: &[u8], k: Caps) -> bool
     requires { ⌜ Room k (now t) (now p) ⌝ }
     ensures { λ r. ⌜ r ≡ test (bitRules k (view k (now (t .entry)) (now (p .entry)))) ⌝ }
 {
-    let mails = every(t, p, k, Kind::MailBit, 256);
-    let datas = every(t, p, k, Kind::DataBit, 256);
+    let mails = every(t, p, k, Kind::MailBit, COLUMN_BITS as u64);
+    let datas = every(t, p, k, Kind::DataBit, COLUMN_BITS as u64);
     mails & datas
 }
 

@@ -7,6 +7,7 @@ ghost use Rattle.rules.specs.Rule.{test};
 ghost use Rattle.rules.specs.Sound.{zeros, emptyRule, headerRule, lengthRule, senderRule, messageRule, dataRule, filterRule};
 ghost use Rattle.rules.specs.Terms.{header, wants, fits, awaits};
 ghost use Rattle.tables.specs.Columns.{AGE, PAYLOAD};
+ghost use Rattle.tables.specs.Limits.{ENTRY-BYTES, HEADER-BYTES, PAYLOAD-MOST};
 ghost use Rattle.tables.specs.State.{neededP, view, Room};
 use crate::entries::bit_free;
 use crate::entries::named;
@@ -14,6 +15,7 @@ use records::bytes::load32;
 use records::header::class_of;
 use records::header::mark_of;
 use records::header::tag_of;
+use rules::states::WAITS;
 use tables::Caps;
 use tables::columns::AGE;
 use tables::columns::DATA_FREE;
@@ -26,6 +28,13 @@ use tables::columns::STATE;
 use tables::columns::WANT_CLASS;
 use tables::columns::WANT_SENDER;
 use tables::columns::WANT_TAG;
+use tables::limits::ACTOR_FACTOR;
+use tables::limits::ANY_CLASS;
+use tables::limits::ANY_SENDER;
+use tables::limits::ANY_TAG;
+use tables::limits::ENTRY_BYTES;
+use tables::limits::HEADER_BYTES;
+use tables::limits::PAYLOAD_MOST;
 use tables::words::get;
 
 // ---- headers
@@ -35,7 +44,7 @@ fn header_of(t: &[u64], p: &[u8], k: Caps, d: u64) -> u32
     ensures { λ r. ⌜ r ≡ header (view k (now (t .entry)) (now (p .entry))) d ⌝ }
 {
     if d < (k.datas as u64) {
-        return load32(p, 256 * (d as usize));
+        return load32(p, ENTRY_BYTES * (d as usize));
     }
     0
 }
@@ -57,24 +66,25 @@ fn header_ok(header: u32) -> bool
 {
     let class = class_of(header);
     let mark = mark_of(header);
-    let tag = tag_of(header);
-    (!(class == 0) | ((mark == 0) & (tag < 134_217_727)))
+    let tag = tag_in(header);
+    (!(class == 0) | ((mark == 0) & (tag < ANY_TAG)))
         & (!!(class == 0) | (((3 <= class) & (class <= 4)) & ((mark == 1) & (tag == 0))))
 }
 
 fn length_ok(class: u64, length: u64) -> bool
     ensures { λ r. ⌜ r ≡ test (lengthRule class length) ⌝ }
 {
-    (length <= 252) & ((!(class == 3) | (length == 8)) & (!(class == 4) | (length == 14)))
+    (length <= (PAYLOAD_MOST as u64))
+        & ((!(class == 3) | (length == 8)) & (!(class == 4) | (length == 14)))
 }
 
 fn sender_ok(t: &[u64], p: &[u8], k: Caps, class: u64, sender: u64) -> bool
     requires { ⌜ Room k (now t) (now p) ⌝ }
     ensures { λ r. ⌜ r ≡ test (senderRule (view k (now (t .entry)) (now (p .entry)) AGE) class sender) ⌝ }
 {
-    let age = get(t, p, k, AGE, sender % 64);
+    let age = get(t, p, k, AGE, sender % ACTOR_FACTOR);
     (!(sender == 0) | (class == 3))
-        & (!!(sender == 0) | ((1 <= sender / 64) & (sender / 64 <= age)))
+        & (!!(sender == 0) | ((1 <= sender / ACTOR_FACTOR) & (sender / ACTOR_FACTOR <= age)))
 }
 
 // ---- bytes
@@ -103,13 +113,19 @@ fn zero_bytes(t: &[u64], p: &[u8], k: Caps, from: usize, n: usize) -> bool
 // Are the bytes of data entry d past its payload zero?
 fn rest_zero(t: &[u64], p: &[u8], k: Caps, d: u64, length: u64) -> bool
     requires { ⌜ Room k (now t) (now p) × (d < k .datas) ⌝ }
-    ensures { λ r. ⌜ r ≡ test (zeros (view k (now (t .entry)) (now (p .entry)) PAYLOAD) (256 * d + (4 + length)) (252 - length)) ⌝ }
+    ensures { λ r. ⌜ r ≡ test (zeros (view k (now (t .entry)) (now (p .entry)) PAYLOAD) (ENTRY-BYTES * d + (HEADER-BYTES + length)) (PAYLOAD-MOST - length)) ⌝ }
 {
-    if 252 < length {
+    if (PAYLOAD_MOST as u64) < length {
         return true;
     }
     let n = length as usize;
-    zero_bytes(t, p, k, 256 * (d as usize) + (4 + n), 252 - n)
+    zero_bytes(
+        t,
+        p,
+        k,
+        ENTRY_BYTES * (d as usize) + (HEADER_BYTES + n),
+        PAYLOAD_MOST - n,
+    )
 }
 
 // ---- data entries
@@ -119,7 +135,7 @@ fn empty_ok(t: &[u64], p: &[u8], k: Caps, d: u64) -> bool
 {
     let sender = get(t, p, k, SENDER, d);
     let length = get(t, p, k, LENGTH, d);
-    let zero = zero_bytes(t, p, k, 256 * (d as usize), 256);
+    let zero = zero_bytes(t, p, k, ENTRY_BYTES * (d as usize), ENTRY_BYTES);
     ((sender == 0) & (length == 0)) & zero
 }
 
@@ -159,9 +175,9 @@ fn wanted(any: u64, word: u64, x: u64) -> bool
 fn matches(by: u64, class: u64, tag: u64, sender: u64, header: u32) -> bool
     ensures { λ r. ⌜ r ≡ fits by class tag sender (classOf header) (tagOf header) ⌝ }
 {
-    let from = wanted(4_294_967_295, by, sender);
-    let kind = wanted(15, class, class_in(header));
-    let tagged = wanted(134_217_727, tag, tag_in(header));
+    let from = wanted(ANY_SENDER, by, sender);
+    let kind = wanted(ANY_CLASS, class, class_in(header));
+    let tagged = wanted(ANY_TAG, tag, tag_in(header));
     from & (kind & tagged)
 }
 
@@ -187,5 +203,5 @@ pub fn filter_ok(t: &[u64], p: &[u8], k: Caps, e: u64) -> bool
     let entry = named(get(t, p, k, MAIL_DATA, e));
     let state = get(t, p, k, STATE, owner);
     let heard = awaited(t, p, k, owner, entry);
-    !(!is_free & (state == 3)) | !heard
+    !(!is_free & (state == WAITS)) | !heard
 }

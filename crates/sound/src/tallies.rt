@@ -8,6 +8,7 @@ ghost use Rattle.tables.specs.Columns.{REST};
 ghost use Rattle.tables.specs.State.{view, Room};
 use crate::Listed;
 use crate::entries::bit_free;
+use rules::states::RUNNABLE;
 use tables::Caps;
 use tables::columns::ARRIVAL;
 use tables::columns::ARRIVED;
@@ -39,7 +40,7 @@ fn listed(t: &[u64], p: &[u8], k: Caps, list: Listed, i: u64) -> bool
     ensures { λ r. ⌜ r ≡ stands (view k (now (t .entry)) (now (p .entry))) list i ⌝ }
 {
     match list {
-        Listed::Queued => get(t, p, k, STATE, i) == 1,
+        Listed::Queued => get(t, p, k, STATE, i) == RUNNABLE,
         Listed::Arrived => !bit_free(t, p, k, MAIL_FREE, i),
         Listed::Held => !bit_free(t, p, k, DATA_FREE, i),
     }

@@ -12,6 +12,7 @@ use borrow.Author.Tests.{eqb-false, eq-eqb, ne-eqb}
 use Rattle.pools.specs.Lists.{without}
 use Rattle.pools.proofs.BoolLaws.{split}
 use Rattle.pools.proofs.ListLaws.{length-without}
+use Rattle.tables.specs.Limits.{ENTRY-BYTES}
 use Rattle.tables.specs.declared.Caps.{Caps}
 use Rattle.tables.specs.Columns.{PAYLOAD}
 use Rattle.tables.specs.State.{State, at, head, with-col, poke}
@@ -116,43 +117,43 @@ module _ (s : State) (list count : ℕ) (apart : eqb list count ≡ false) where
 -- ---- the bytes of an entry
 module _ (s : State) (d : ℕ) where
   -- the payload once bytes were written
-  pub write-payload : (i : ℕ) (m : List ℕ) → write s d i m PAYLOAD ≡ sets (s PAYLOAD) (256 * d + i) m
+  pub write-payload : (i : ℕ) (m : List ℕ) → write s d i m PAYLOAD ≡ sets (s PAYLOAD) (ENTRY-BYTES * d + i) m
   unfolding write
-  write-payload i m = with-same s PAYLOAD (sets (s PAYLOAD) (256 * d + i) m)
+  write-payload i m = with-same s PAYLOAD (sets (s PAYLOAD) (ENTRY-BYTES * d + i) m)
 
   -- bytes written into an entry
-  pub write-entry : (i : ℕ) (m : List ℕ) → i + length m ≤ 256 → entry (write s d i m) d ≡ sets (entry s d) i m
-  write-entry i m h = rw (write-payload i m) (sets-within (s PAYLOAD) (256 * d) 256 i m h)
+  pub write-entry : (i : ℕ) (m : List ℕ) → i + length m ≤ ENTRY-BYTES → entry (write s d i m) d ≡ sets (entry s d) i m
+  write-entry i m h = rw (write-payload i m) (sets-within (s PAYLOAD) (ENTRY-BYTES * d) ENTRY-BYTES i m h)
 
   -- leave every other entry as it was
-  pub write-apart : (i : ℕ) (m : List ℕ) (e : ℕ) → i + length m ≤ 256 → (e ≡ d → ⊥) → entry (write s d i m) e ≡ entry s e
-  write-apart i m e h q = rw (write-payload i m) (sets-apart (s PAYLOAD) (256 * e) 256 (256 * d + i) m (λ j n b o p. q (omega arith)))
+  pub write-apart : (i : ℕ) (m : List ℕ) (e : ℕ) → i + length m ≤ ENTRY-BYTES → (e ≡ d → ⊥) → entry (write s d i m) e ≡ entry s e
+  write-apart i m e h q = rw (write-payload i m) (sets-apart (s PAYLOAD) (ENTRY-BYTES * e) ENTRY-BYTES (ENTRY-BYTES * d + i) m (λ j n b o p. q (omega arith)))
 
   -- end to end
   pub write-append : (i : ℕ) (m n : List ℕ) → write (write s d i m) d (i + length m) n ≡ write s d i (m ++ n)
   unfolding write
-  write-append i m n = rw (with-same s PAYLOAD (sets (s PAYLOAD) (256 * d + i) m), with-twice s PAYLOAD (sets (s PAYLOAD) (256 * d + i) m), sets-append (s PAYLOAD) (256 * d + i) m n) (ap (λ (j : ℕ). with-col s PAYLOAD (sets (sets (s PAYLOAD) (256 * d + i) m) j n)) (omega arith))
+  write-append i m n = rw (with-same s PAYLOAD (sets (s PAYLOAD) (ENTRY-BYTES * d + i) m), with-twice s PAYLOAD (sets (s PAYLOAD) (ENTRY-BYTES * d + i) m), sets-append (s PAYLOAD) (ENTRY-BYTES * d + i) m n) (ap (λ (j : ℕ). with-col s PAYLOAD (sets (sets (s PAYLOAD) (ENTRY-BYTES * d + i) m) j n)) (omega arith))
 
-  -- an entry has 256 bytes
-  pub length-entry : (k : Caps) → Sized k s → d < k .datas → length (entry s d) ≡ 256
-  length-entry k z h = length-take-le 256 (drop (256 * d) (s PAYLOAD)) (rw length-drop (omega (arith, z .bytes)))
+  -- an entry has all its bytes
+  pub length-entry : (k : Caps) → Sized k s → d < k .datas → length (entry s d) ≡ ENTRY-BYTES
+  length-entry k z h = length-take-le ENTRY-BYTES (drop (ENTRY-BYTES * d) (s PAYLOAD)) (rw length-drop (omega (arith, z .bytes)))
 
   -- a byte that was written
-  pub write-byte : (i : ℕ) (m : List ℕ) (j : ℕ) → i + length m ≤ 256 → length (entry s d) ≡ 256 → j < length m → getD (entry (write s d i m) d) (i + j) 0 ≡ getD m j 0
+  pub write-byte : (i : ℕ) (m : List ℕ) (j : ℕ) → i + length m ≤ ENTRY-BYTES → length (entry s d) ≡ ENTRY-BYTES → j < length m → getD (entry (write s d i m) d) (i + j) 0 ≡ getD m j 0
   write-byte i m j h l g = rw (write-entry i m h) (sets-same (entry s d) i m j (omega arith) g)
 
   -- a byte before or after them
-  pub write-around : (i : ℕ) (m : List ℕ) (j : ℕ) → i + length m ≤ 256 → ((n : ℕ) → n < length m → j ≡ i + n → ⊥) → getD (entry (write s d i m) d) j 0 ≡ getD (entry s d) j 0
+  pub write-around : (i : ℕ) (m : List ℕ) (j : ℕ) → i + length m ≤ ENTRY-BYTES → ((n : ℕ) → n < length m → j ≡ i + n → ⊥) → getD (entry (write s d i m) d) j 0 ≡ getD (entry s d) j 0
   write-around i m j h q = rw (write-entry i m h) (sets-other (entry s d) i m j q)
 
   -- an entry written whole
-  pub write-whole : (m : List ℕ) → length m ≡ 256 → length (entry s d) ≡ 256 → entry (write s d 0 m) d ≡ m
+  pub write-whole : (m : List ℕ) → length m ≡ ENTRY-BYTES → length (entry s d) ≡ ENTRY-BYTES → entry (write s d 0 m) d ≡ m
   write-whole m h l = write-entry 0 m (omega arith) ∙ sets-all (entry s d) m (omega arith)
 
   -- a blank entry is all zero
-  pub blank-entry : length (entry s d) ≡ 256 → entry (blank s d) d ≡ replicate 256 0
-  blank-entry l = write-whole (replicate 256 0) (length-replicate {A = ℕ} 256 0) l
+  pub blank-entry : length (entry s d) ≡ ENTRY-BYTES → entry (blank s d) d ≡ replicate ENTRY-BYTES 0
+  blank-entry l = write-whole (replicate ENTRY-BYTES 0) (length-replicate {A = ℕ} ENTRY-BYTES 0) l
 
   -- bytes written from byte 0 of such an entry on, and zeros after them
-  pub write-blank : (m : List ℕ) → length m ≤ 256 → entry s d ≡ replicate 256 0 → entry (write s d 0 m) d ≡ m ++ replicate (256 - length m) 0
-  write-blank m h e = write-entry 0 m (omega arith) ∙ ap (λ (l : List ℕ). sets l 0 m) e ∙ sets-zeros 256 m h
+  pub write-blank : (m : List ℕ) → length m ≤ ENTRY-BYTES → entry s d ≡ replicate ENTRY-BYTES 0 → entry (write s d 0 m) d ≡ m ++ replicate (ENTRY-BYTES - length m) 0
+  write-blank m h e = write-entry 0 m (omega arith) ∙ ap (λ (l : List ℕ). sets l 0 m) e ∙ sets-zeros ENTRY-BYTES m h

@@ -10,6 +10,7 @@ use lib.Seq.{set-out, getD-take, take-all, drop-drop, sets, length-sets, paste, 
 use lib.Dec.{eqb, ltb}
 use borrow.Author.Tests.{eqb-true, eqb-false, ne-eqb, ltb-true, ltb-false, lt-ltb, le-ltb}
 use Rattle.pools.proofs.BoolLaws.{split}
+use Rattle.tables.specs.Limits.{ENTRY-BYTES, WORDS-MOST}
 use Rattle.tables.specs.declared.Caps.{Caps}
 use Rattle.tables.specs.Columns.{PAST, PAYLOAD, REST}
 use Rattle.tables.specs.State.{State, with-col, poke, cut, sum, glue, sizes, sizesP, size, start, needed, view, joinW, joinP, InRange, Room, Left}
@@ -23,7 +24,7 @@ pub needed-sum : (k : Caps) → sum (sizes k) ≡ needed k
 needed-sum k = omega arith
 
 -- "at most 4,096"
-pub needed-few : (k : Caps) → InRange k → needed k ≤ 4096
+pub needed-few : (k : Caps) → InRange k → needed k ≤ WORDS-MOST
 needed-few k r = omega arith
 
 module _ (k : Caps) (w p : List ℕ) where
@@ -60,14 +61,14 @@ module _ (k : Caps) (w p : List ℕ) where
   full-view h = rw (← needed-sum k) (full-cut (sizes k) w (λ c l. ap length (sym (view-word c (omega arith))) ∙ h c l))
 
   -- the payload has its size where its buffer has room
-  pub view-fullP : 256 * k .datas ≤ length p → length (view k w p PAYLOAD) ≡ 256 * k .datas
+  pub view-fullP : ENTRY-BYTES * k .datas ≤ length p → length (view k w p PAYLOAD) ≡ ENTRY-BYTES * k .datas
   unfolding view
   view-fullP h = cut-full (sizesP k) p (omega arith) 0 (omega arith)
 
   -- and the buffer has room where the payload has its size
-  pub full-viewP : length (view k w p PAYLOAD) ≡ 256 * k .datas → 256 * k .datas ≤ length p
+  pub full-viewP : length (view k w p PAYLOAD) ≡ ENTRY-BYTES * k .datas → ENTRY-BYTES * k .datas ≤ length p
   unfolding view cut
-  full-viewP e = omega (arith, length-take (256 * k .datas) p)
+  full-viewP e = omega (arith, length-take (ENTRY-BYTES * k .datas) p)
 
   -- nothing is lost
   pub join-view : (joinW (view k w p) ≡ w) × (joinP (view k w p) ≡ p)
@@ -82,7 +83,7 @@ view-past k w p c l = rw (le-ltb c PAYLOAD (omega arith)) (cut-past (sizesP k) p
 -- a state that lies in buffers: each column has its size, and there are no more
 pub record Sized (k : Caps) (s : State) : Type 0 where
   pub words : (c : ℕ) → c < REST → length (s c) ≡ size k c
-  pub bytes : length (s PAYLOAD) ≡ 256 * k .datas
+  pub bytes : length (s PAYLOAD) ≡ ENTRY-BYTES * k .datas
   pub past : (c : ℕ) → PAST < c → s c ≡ []
 
 -- a state that lies in buffers is what is seen in its own
@@ -117,14 +118,14 @@ module _ (k : Caps) (w p : List ℕ) (r : Room k w p) (l : List ℕ) where
       (λ q. let z : eqb d c ≡ false = ne-eqb d c (λ z. omega (arith, ltb-false d PAYLOAD q)) in rw (q, z))))
 
   -- and into the payload
-  pub view-pasteP : (i n : ℕ) → i + n ≤ 256 * k .datas → n ≤ length l → view k w (paste p i l n) ≡ with-col (view k w p) PAYLOAD (paste (view k w p PAYLOAD) i l n)
+  pub view-pasteP : (i n : ℕ) → i + n ≤ ENTRY-BYTES * k .datas → n ≤ length l → view k w (paste p i l n) ≡ with-col (view k w p) PAYLOAD (paste (view k w p PAYLOAD) i l n)
   unfolding view with-col cut
   view-pasteP i n h g = fun-ext (λ d.
       split (ltb d PAYLOAD)
       (λ q. let e : eqb d PAYLOAD ≡ false = ne-eqb d PAYLOAD (λ z. omega (arith, ltb-true d PAYLOAD q)) in rw (q, e))
       (λ q. split (eqb d PAYLOAD)
-      (λ e. rw (q, e, eqb-true d PAYLOAD e) (take-pasted p l i n (256 * k .datas) h (r .bytes) g))
-      (λ e. let z : d - PAYLOAD ≡ suc (d - PAST) = omega (arith, ltb-false d PAYLOAD q, eqb-false d PAYLOAD e) in rw (q, e, z) (ap (λ x. cut [] x (d - PAST)) (drop-pasted p l i n (256 * k .datas) h (r .bytes) g)))))
+      (λ e. rw (q, e, eqb-true d PAYLOAD e) (take-pasted p l i n (ENTRY-BYTES * k .datas) h (r .bytes) g))
+      (λ e. let z : d - PAYLOAD ≡ suc (d - PAST) = omega (arith, ltb-false d PAYLOAD q, eqb-false d PAYLOAD e) in rw (q, e, z) (ap (λ x. cut [] x (d - PAST)) (drop-pasted p l i n (ENTRY-BYTES * k .datas) h (r .bytes) g)))))
 
 -- a list written over a part leaves the room that there was
 pub room-paste : (k : Caps) (w p l : List ℕ) (m n : ℕ) → m + n ≤ length w → n ≤ length l → Room k w p → Room k (paste w m l n) p
@@ -133,35 +134,35 @@ room-paste k w p l m n h g r = record { caps = r .caps; words = rw (length-paste
 -- ---- the payload
 module _ (k : Caps) (w p : List ℕ) (r : Room k w p) where
   -- a byte of the area
-  pub view-getP : (i : ℕ) → i < 256 * k .datas → getD (view k w p PAYLOAD) i 0 ≡ getD p i 0
+  pub view-getP : (i : ℕ) → i < ENTRY-BYTES * k .datas → getD (view k w p PAYLOAD) i 0 ≡ getD p i 0
   unfolding view cut
-  view-getP i h = getD-take (256 * k .datas) p i 0 h
+  view-getP i h = getD-take (ENTRY-BYTES * k .datas) p i 0 h
 
   -- past the area there is none
-  pub view-outP : (i : ℕ) → 256 * k .datas ≤ i → getD (view k w p PAYLOAD) i 0 ≡ 0
+  pub view-outP : (i : ℕ) → ENTRY-BYTES * k .datas ≤ i → getD (view k w p PAYLOAD) i 0 ≡ 0
   view-outP i h = List·getD-eq-default (view k w p PAYLOAD) 0 (omega (arith, view-fullP k w p (r .bytes)))
 
   -- bytes stored one after the other among the first ones of the area
-  pub view-sets : (i : ℕ) (m : List ℕ) → i + length m ≤ 256 * k .datas → view k w (sets p i m) ≡ with-col (view k w p) PAYLOAD (sets (view k w p PAYLOAD) i m)
+  pub view-sets : (i : ℕ) (m : List ℕ) → i + length m ≤ ENTRY-BYTES * k .datas → view k w (sets p i m) ≡ with-col (view k w p) PAYLOAD (sets (view k w p PAYLOAD) i m)
   view-sets i m h = rw (sets-paste p i m (omega (arith, r .bytes)), sets-paste (view k w p PAYLOAD) i m (omega (arith, view-fullP k w p (r .bytes)))) (view-pasteP k w p r m i (length m) h (omega arith))
 
   -- bytes written into an entry
-  pub write-left : (d i : ℕ) (m : List ℕ) → d < k .datas → i + length m ≤ 256 → Left k (write (view k w p) d i m) w (sets p (256 * d + i) m)
+  pub write-left : (d i : ℕ) (m : List ℕ) → d < k .datas → i + length m ≤ ENTRY-BYTES → Left k (write (view k w p) d i m) w (sets p (ENTRY-BYTES * d + i) m)
   unfolding write
   write-left d i m l h = record {
-    is = view-sets (256 * d + i) m (omega arith);
-    room = record { caps = r .caps; words = r .words; bytes = rw (length-sets p (256 * d + i) m) (r .bytes) };
+    is = view-sets (ENTRY-BYTES * d + i) m (omega arith);
+    room = record { caps = r .caps; words = r .words; bytes = rw (length-sets p (ENTRY-BYTES * d + i) m) (r .bytes) };
   }
 
   -- zeros written over an entry's first n bytes
-  zeros-left : (d n : ℕ) → d < k .datas → n ≤ 256 → Left k (write (view k w p) d 0 (replicate n 0)) w (sets p (256 * d) (replicate n 0))
+  zeros-left : (d n : ℕ) → d < k .datas → n ≤ ENTRY-BYTES → Left k (write (view k w p) d 0 (replicate n 0)) w (sets p (ENTRY-BYTES * d) (replicate n 0))
   zeros-left d n l h =
       let e : length (replicate {A = ℕ} n 0) ≡ n = length-replicate n 0 in
-      rw (add-zero (256 * d)) at (write-left d 0 (replicate n 0) l (omega arith))
+      rw (add-zero (ENTRY-BYTES * d)) at (write-left d 0 (replicate n 0) l (omega arith))
 
   -- and over all of them
-  pub blank-left : (d : ℕ) → d < k .datas → Left k (blank (view k w p) d) w (sets p (256 * d) (replicate 256 0))
-  blank-left d l = zeros-left d 256 l (omega arith)
+  pub blank-left : (d : ℕ) → d < k .datas → Left k (blank (view k w p) d) w (sets p (ENTRY-BYTES * d) (replicate ENTRY-BYTES 0))
+  blank-left d l = zeros-left d ENTRY-BYTES l (omega arith)
 
 -- ---- a part of a column lent to a call
 module _ (k : Caps) (w p : List ℕ) (r : Room k w p) (c s n e : ℕ) (b : c < REST) (z : s ≡ start k c) (h : e ≡ s + n) where

@@ -6,6 +6,7 @@ use lib.Seq.{sets}
 use Rattle.pools.specs.Bits.{taken, released}
 use Rattle.pools.specs.Lists.{without}
 use Rattle.tables.specs.Columns.{PAYLOAD}
+use Rattle.tables.specs.Limits.{ENTRY-BYTES}
 use Rattle.tables.specs.State.{State, head, with-col, poke}
 
 -- ---- a list is a column whose first words count; the word `count` of the head says how many
@@ -30,12 +31,12 @@ freeBit s c e = with-col s c (released (s c) e)
 
 -- ---- "Data entry n begins at byte 256 × n of the area": bytes written into entry d from its byte i on
 unfoldable pub write : State → ℕ → ℕ → List ℕ → State
-write s d i m = with-col s PAYLOAD (sets (s PAYLOAD) (256 * d + i) m)
+write s d i m = with-col s PAYLOAD (sets (s PAYLOAD) (ENTRY-BYTES * d + i) m)
 
 -- the bytes of entry d
 abbrev pub entry : State → ℕ → List ℕ
-entry s d = take 256 (drop (256 * d) (s PAYLOAD))
+entry s d = take ENTRY-BYTES (drop (ENTRY-BYTES * d) (s PAYLOAD))
 
 -- all bytes of entry d zero
 abbrev pub blank : State → ℕ → State
-blank s d = write s d 0 (replicate 256 0)
+blank s d = write s d 0 (replicate ENTRY-BYTES 0)

@@ -1,130 +1,134 @@
--- The columns of the tables by name and number. docs/LAYOUT.md says what each holds.
+-- The columns of the tables by name and number: each is the one after the column above it, so that one more moves those below it. docs/LAYOUT.md says what each holds.
 -- A slot or an entry that a word names is stored one up, so that 0 names none and a free entry is all zero;
 -- the queue and the arrivals, which have counts, hold the numbers themselves. Assumes nothing.
-use Prim.Native.Nat.{ℕ}
+use Prim.Native.Nat.{ℕ, _+_}
 
--- ---- the head, one word each: the six capacities, the clock, the running actor's slot, the lengths of the queue and of the arrivals; 10 to 15 spare
+-- ---- the head, one word each: the six capacities, the clock, the running actor's slot, the lengths of the queue and of the arrivals
 abbrev pub ACTORS : ℕ
 ACTORS = 0
 
 abbrev pub MAILS : ℕ
-MAILS = 1
+MAILS = ACTORS + 1
 
 abbrev pub DATAS : ℕ
-DATAS = 2
+DATAS = MAILS + 1
 
 abbrev pub LINKS : ℕ
-LINKS = 3
+LINKS = DATAS + 1
 
 abbrev pub MONITORS : ℕ
-MONITORS = 4
+MONITORS = LINKS + 1
 
 abbrev pub TIMERS : ℕ
-TIMERS = 5
+TIMERS = MONITORS + 1
 
 abbrev pub CLOCK : ℕ
-CLOCK = 6
+CLOCK = TIMERS + 1
 
 abbrev pub RUNNING : ℕ
-RUNNING = 7
+RUNNING = CLOCK + 1
 
 abbrev pub QUEUED : ℕ
-QUEUED = 8
+QUEUED = RUNNING + 1
 
 abbrev pub ARRIVED : ℕ
-ARRIVED = 9
+ARRIVED = QUEUED + 1
+
+-- ---- the spare words of the head: one column
+abbrev pub SPARE : ℕ
+SPARE = ARRIVED + 1
 
 -- ---- the free bits, four words each
 abbrev pub MAIL-FREE : ℕ
-MAIL-FREE = 16
+MAIL-FREE = SPARE + 1
 
 abbrev pub DATA-FREE : ℕ
-DATA-FREE = 17
+DATA-FREE = MAIL-FREE + 1
 
 -- ---- a word for each actor slot
 abbrev pub STATE : ℕ
-STATE = 18
+STATE = DATA-FREE + 1
 
 abbrev pub PRIORITY : ℕ
-PRIORITY = 19
+PRIORITY = STATE + 1
 
 abbrev pub REASON : ℕ
-REASON = 20
+REASON = PRIORITY + 1
 
 abbrev pub AGE : ℕ
-AGE = 21
+AGE = REASON + 1
 
 abbrev pub HAND : ℕ
-HAND = 22
+HAND = AGE + 1
 
 abbrev pub WANT-SENDER : ℕ
-WANT-SENDER = 23
+WANT-SENDER = HAND + 1
 
 abbrev pub WANT-CLASS : ℕ
-WANT-CLASS = 24
+WANT-CLASS = WANT-SENDER + 1
 
 abbrev pub WANT-TAG : ℕ
-WANT-TAG = 25
+WANT-TAG = WANT-CLASS + 1
 
 abbrev pub DEADLINE : ℕ
-DEADLINE = 26
+DEADLINE = WANT-TAG + 1
 
 abbrev pub QUEUE : ℕ
-QUEUE = 27
+QUEUE = DEADLINE + 1
 
 -- ---- a word for each mailbox entry
 abbrev pub MAIL-OWNER : ℕ
-MAIL-OWNER = 28
+MAIL-OWNER = QUEUE + 1
 
 abbrev pub MAIL-DATA : ℕ
-MAIL-DATA = 29
+MAIL-DATA = MAIL-OWNER + 1
 
 abbrev pub ARRIVAL : ℕ
-ARRIVAL = 30
+ARRIVAL = MAIL-DATA + 1
 
 -- ---- a word for each data entry
 abbrev pub SENDER : ℕ
-SENDER = 31
+SENDER = ARRIVAL + 1
 
 abbrev pub LENGTH : ℕ
-LENGTH = 32
+LENGTH = SENDER + 1
 
 -- ---- a word for each link
 abbrev pub LINK-ONE : ℕ
-LINK-ONE = 33
+LINK-ONE = LENGTH + 1
 
 abbrev pub LINK-TWO : ℕ
-LINK-TWO = 34
+LINK-TWO = LINK-ONE + 1
 
 -- ---- a word for each monitor
 abbrev pub WATCHER : ℕ
-WATCHER = 35
+WATCHER = LINK-TWO + 1
 
 abbrev pub WATCHED : ℕ
-WATCHED = 36
+WATCHED = WATCHER + 1
 
 abbrev pub MONITOR-AGE : ℕ
-MONITOR-AGE = 37
+MONITOR-AGE = WATCHED + 1
 
 -- ---- a word for each timer
 abbrev pub TIMER-OWNER : ℕ
-TIMER-OWNER = 38
+TIMER-OWNER = MONITOR-AGE + 1
 
 abbrev pub TIMER-AGE : ℕ
-TIMER-AGE = 39
+TIMER-AGE = TIMER-OWNER + 1
 
 abbrev pub DUE : ℕ
-DUE = 40
+DUE = TIMER-AGE + 1
 
 abbrev pub INTERVAL : ℕ
-INTERVAL = 41
+INTERVAL = DUE + 1
 
 -- ---- the words past the needed ones; the payload area, a byte each; the bytes past it
 abbrev pub REST : ℕ
-REST = 42
+REST = INTERVAL + 1
 
 abbrev pub PAYLOAD : ℕ
-PAYLOAD = 43
+PAYLOAD = REST + 1
 
 abbrev pub PAST : ℕ
-PAST = 44
+PAST = PAYLOAD + 1

@@ -1,4 +1,6 @@
 -- Definitions that the contracts cite.
 pub mod Action
 pub mod Columns
+pub mod Limits
+pub mod Sizes
 pub mod State

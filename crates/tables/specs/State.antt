@@ -5,7 +5,9 @@ use mathlib.Core.Bool.{cond}
 use mathlib.Core.List.{List, [], _∷_, _++_}
 use lib.ListN.{length, getD, set, take, drop, replicate}
 use lib.Dec.{eqb, ltb}
-use Rattle.tables.specs.Columns.{PAYLOAD, REST}
+use Rattle.tables.specs.Columns.{ACTORS, DATAS, LINKS, MAILS, MONITORS, PAYLOAD, REST, TIMERS}
+use Rattle.tables.specs.Sizes.{BIT-WORDS, BITS, FIXED, HEADS, PER-ACTOR, PER-DATA, PER-LINK, PER-MAIL, PER-MONITOR, PER-TIMER, SPARES}
+use Rattle.tables.specs.Limits.{ENTRY-BYTES, MOST-ACTORS, MOST-DATAS, MOST-LINKS, MOST-MAILS, MOST-MONITORS, MOST-TIMERS}
 use Rattle.tables.specs.declared.Caps.{Caps}
 
 abbrev pub State : Type 0
@@ -46,15 +48,19 @@ glue (suc n) f = f 0 ++ glue n (λ c. f (suc c))
 -- ---- the sizes of this runtime's columns: "the number of words needed as a formula of the capacities"
 abbrev pub sizes : Caps → List ℕ
 sizes k =
-    replicate 16 1
-    ++ (replicate 2 4
-    ++ (replicate 10 (k .actors)
-    ++ (replicate 3 (k .mails)
-    ++ (replicate 2 (k .datas) ++ (replicate 2 (k .links) ++ (replicate 3 (k .monitors) ++ replicate 4 (k .timers)))))))
+    replicate HEADS 1
+    ++ (replicate 1 SPARES
+    ++ (replicate BITS BIT-WORDS
+    ++ (replicate PER-ACTOR (k .actors)
+    ++ (replicate PER-MAIL (k .mails)
+    ++ (replicate PER-DATA (k .datas)
+    ++ (replicate PER-LINK (k .links)
+    ++ (replicate PER-MONITOR (k .monitors)
+    ++ replicate PER-TIMER (k .timers))))))))
 
 -- "Data entry n begins at byte 256 × n of the area"
 abbrev pub sizesP : Caps → List ℕ
-sizesP k = 256 * k .datas ∷ []
+sizesP k = ENTRY-BYTES * k .datas ∷ []
 
 abbrev pub size : Caps → ℕ → ℕ
 size k c = getD (sizes k) c 0
@@ -63,10 +69,12 @@ abbrev pub start : Caps → ℕ → ℕ
 start k c = sum (take c (sizes k))
 
 abbrev pub needed : Caps → ℕ
-needed k = 24 + k .actors * 10 + k .mails * 3 + k .datas * 2 + k .links * 2 + k .monitors * 3 + k .timers * 4
+needed k =
+    FIXED + k .actors * PER-ACTOR + k .mails * PER-MAIL + k .datas * PER-DATA
+    + k .links * PER-LINK + k .monitors * PER-MONITOR + k .timers * PER-TIMER
 
 abbrev pub neededP : Caps → ℕ
-neededP k = 256 * k .datas
+neededP k = ENTRY-BYTES * k .datas
 
 -- ---- there and back
 unfoldable pub view : Caps → List ℕ → List ℕ → State
@@ -81,25 +89,25 @@ joinP s = glue 1 (λ c. s (PAYLOAD + c))
 -- the capacities that the head states
 abbrev pub capsOf : List ℕ → Caps
 capsOf w = record {
-  actors = getD w 0 0;
-  mails = getD w 1 0;
-  datas = getD w 2 0;
-  links = getD w 3 0;
-  monitors = getD w 4 0;
-  timers = getD w 5 0;
+  actors = getD w ACTORS 0;
+  mails = getD w MAILS 0;
+  datas = getD w DATAS 0;
+  links = getD w LINKS 0;
+  monitors = getD w MONITORS 0;
+  timers = getD w TIMERS 0;
 }
 
 -- "Capacities and ids": the range of each pool at start
 pub record InRange (k : Caps) : Type 0 where
   pub someActors : 1 ≤ k .actors
-  pub fewActors : k .actors ≤ 64
+  pub fewActors : k .actors ≤ MOST-ACTORS
   pub someMails : 1 ≤ k .mails
-  pub fewMails : k .mails ≤ 256
+  pub fewMails : k .mails ≤ MOST-MAILS
   pub someDatas : 1 ≤ k .datas
-  pub fewDatas : k .datas ≤ 256
-  pub fewLinks : k .links ≤ 128
-  pub fewMonitors : k .monitors ≤ 128
-  pub fewTimers : k .timers ≤ 64
+  pub fewDatas : k .datas ≤ MOST-DATAS
+  pub fewLinks : k .links ≤ MOST-LINKS
+  pub fewMonitors : k .monitors ≤ MOST-MONITORS
+  pub fewTimers : k .timers ≤ MOST-TIMERS
 
 -- the capacities are in range, and both buffers hold what they ask for: what every function inside asks
 pub record Room (k : Caps) (w p : List ℕ) : Type 0 where

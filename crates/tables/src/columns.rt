@@ -1,91 +1,91 @@
-// The columns by number, as specs/Columns.antt names them. docs/LAYOUT.md says what each holds.
+// The columns by number, as specs/Columns.antt names them: each is the one after the column above it. docs/LAYOUT.md says what each holds.
 
-// The head, one word each; 10 to 15 are spare.
+// The head, one word each.
 pub const ACTORS: usize = 0;
 
-pub const MAILS: usize = 1;
+pub const MAILS: usize = ACTORS + 1;
 
-pub const DATAS: usize = 2;
+pub const DATAS: usize = MAILS + 1;
 
-pub const LINKS: usize = 3;
+pub const LINKS: usize = DATAS + 1;
 
-pub const MONITORS: usize = 4;
+pub const MONITORS: usize = LINKS + 1;
 
-pub const TIMERS: usize = 5;
+pub const TIMERS: usize = MONITORS + 1;
 
-pub const CLOCK: usize = 6;
+pub const CLOCK: usize = TIMERS + 1;
 
-pub const RUNNING: usize = 7;
+pub const RUNNING: usize = CLOCK + 1;
 
-pub const QUEUED: usize = 8;
+pub const QUEUED: usize = RUNNING + 1;
 
-pub const ARRIVED: usize = 9;
+pub const ARRIVED: usize = QUEUED + 1;
 
-// The first of six spare words.
-pub const SPARE: usize = 10;
+// The spare words of the head: one column.
+pub const SPARE: usize = ARRIVED + 1;
 
 // The free bits, four words each.
-pub const MAIL_FREE: usize = 16;
+pub const MAIL_FREE: usize = SPARE + 1;
 
-pub const DATA_FREE: usize = 17;
+pub const DATA_FREE: usize = MAIL_FREE + 1;
 
 // A word for each actor slot.
-pub const STATE: usize = 18;
+pub const STATE: usize = DATA_FREE + 1;
 
-pub const PRIORITY: usize = 19;
+pub const PRIORITY: usize = STATE + 1;
 
-pub const REASON: usize = 20;
+pub const REASON: usize = PRIORITY + 1;
 
-pub const AGE: usize = 21;
+pub const AGE: usize = REASON + 1;
 
-pub const HAND: usize = 22;
+pub const HAND: usize = AGE + 1;
 
-pub const WANT_SENDER: usize = 23;
+pub const WANT_SENDER: usize = HAND + 1;
 
-pub const WANT_CLASS: usize = 24;
+pub const WANT_CLASS: usize = WANT_SENDER + 1;
 
-pub const WANT_TAG: usize = 25;
+pub const WANT_TAG: usize = WANT_CLASS + 1;
 
-pub const DEADLINE: usize = 26;
+pub const DEADLINE: usize = WANT_TAG + 1;
 
-pub const QUEUE: usize = 27;
+pub const QUEUE: usize = DEADLINE + 1;
 
 // A word for each mailbox entry.
-pub const MAIL_OWNER: usize = 28;
+pub const MAIL_OWNER: usize = QUEUE + 1;
 
-pub const MAIL_DATA: usize = 29;
+pub const MAIL_DATA: usize = MAIL_OWNER + 1;
 
-pub const ARRIVAL: usize = 30;
+pub const ARRIVAL: usize = MAIL_DATA + 1;
 
 // A word for each data entry.
-pub const SENDER: usize = 31;
+pub const SENDER: usize = ARRIVAL + 1;
 
-pub const LENGTH: usize = 32;
+pub const LENGTH: usize = SENDER + 1;
 
 // A word for each link.
-pub const LINK_ONE: usize = 33;
+pub const LINK_ONE: usize = LENGTH + 1;
 
-pub const LINK_TWO: usize = 34;
+pub const LINK_TWO: usize = LINK_ONE + 1;
 
 // A word for each monitor.
-pub const WATCHER: usize = 35;
+pub const WATCHER: usize = LINK_TWO + 1;
 
-pub const WATCHED: usize = 36;
+pub const WATCHED: usize = WATCHER + 1;
 
-pub const MONITOR_AGE: usize = 37;
+pub const MONITOR_AGE: usize = WATCHED + 1;
 
 // A word for each timer.
-pub const TIMER_OWNER: usize = 38;
+pub const TIMER_OWNER: usize = MONITOR_AGE + 1;
 
-pub const TIMER_AGE: usize = 39;
+pub const TIMER_AGE: usize = TIMER_OWNER + 1;
 
-pub const DUE: usize = 40;
+pub const DUE: usize = TIMER_AGE + 1;
 
-pub const INTERVAL: usize = 41;
+pub const INTERVAL: usize = DUE + 1;
 
 // The words past the needed ones; the payload area, a byte each; the bytes past it.
-pub const REST: usize = 42;
+pub const REST: usize = INTERVAL + 1;
 
-pub const PAYLOAD: usize = 43;
+pub const PAYLOAD: usize = REST + 1;
 
-pub const PAST: usize = 44;
+pub const PAST: usize = PAYLOAD + 1;

@@ -2,8 +2,10 @@
 pub mod columns;
 pub mod free;
 pub mod layout;
+pub mod limits;
 pub mod lists;
 pub mod payload;
+pub mod sizes;
 pub mod words;
 
 // The capacities of the six pools.

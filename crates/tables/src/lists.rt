@@ -3,6 +3,7 @@ ghost use mathlib.Core.Path.{_≡_};
 ghost use Prim.Native.Nat.{_<_, _≤_};
 ghost use lib.ListN.{length};
 ghost use Rattle.tables.specs.Columns.{REST};
+ghost use Rattle.tables.specs.Limits.{SAFE};
 ghost use Rattle.tables.specs.State.{head, with-col, view, size, Room, Left};
 ghost use Rattle.tables.specs.Action.{closed, push, pull};
 use crate::Caps;
@@ -12,7 +13,7 @@ use crate::words::put;
 
 // v joins the tail.
 pub fn push(t: &mut [u64], p: &[u8], k: Caps, list: usize, count: usize, v: u64)
-    requires { ⌜ Room k (now t) (now p) × (list < REST) × (count < REST) × (head (view k (now t) (now p)) count ≤ 4096) ⌝ }
+    requires { ⌜ Room k (now t) (now p) × (list < REST) × (count < REST) × (head (view k (now t) (now p)) count ≤ SAFE) ⌝ }
     ensures { λ _. ⌜ Left k (push (view k (now (t .entry)) (now (p .entry))) list count v) (now (t .exit)) (now (p .entry)) ⌝ }
 {
     let n = get(t, p, k, count, 0);

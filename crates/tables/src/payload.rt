@@ -4,9 +4,11 @@ ghost use Prim.Native.Nat.{_+_, _*_, _<_, _≤_};
 ghost use lib.ListN.{length, replicate};
 ghost use lib.Seq.{sets};
 ghost use Rattle.tables.specs.Columns.{PAYLOAD};
+ghost use Rattle.tables.specs.Limits.{ENTRY-BYTES};
 ghost use Rattle.tables.specs.State.{at, view, Room, Left};
 ghost use Rattle.tables.specs.Action.{write, blank};
 use crate::Caps;
+use crate::limits::ENTRY_BYTES;
 
 // The bytes of m over q.
 fn copy(q: &mut [u8], from: usize, m: &[u8])
@@ -34,10 +36,10 @@ pub fn zero(q: &mut [u8], from: usize, n: usize)
 
 // The bytes of m go into entry d, from its byte i on.
 pub fn write(t: &[u64], p: &mut [u8], k: Caps, d: u64, i: usize, m: &[u8])
-    requires { ⌜ Room k (now t) (now p) × (d < k .datas) × (i + length (now m) ≤ 256) ⌝ }
+    requires { ⌜ Room k (now t) (now p) × (d < k .datas) × (i + length (now m) ≤ ENTRY-BYTES) ⌝ }
     ensures { λ _. ⌜ Left k (write (view k (now (t .entry)) (now (p .entry))) d i (now (m .entry))) (now (t .entry)) (now (p .exit)) ⌝ }
 {
-    copy(p, 256 * (d as usize) + i, m);
+    copy(p, ENTRY_BYTES * (d as usize) + i, m);
 }
 
 // All bytes of entry d are zero.
@@ -45,16 +47,16 @@ pub fn blank(t: &[u64], p: &mut [u8], k: Caps, d: u64)
     requires { ⌜ Room k (now t) (now p) × (d < k .datas) ⌝ }
     ensures { λ _. ⌜ Left k (blank (view k (now (t .entry)) (now (p .entry))) d) (now (t .entry)) (now (p .exit)) ⌝ }
 {
-    zero(p, 256 * (d as usize), 256);
+    zero(p, ENTRY_BYTES * (d as usize), ENTRY_BYTES);
 }
 
 // Byte i of entry d; 0 past the area.
 pub fn byte(t: &[u64], p: &[u8], k: Caps, d: u64, i: usize) -> u64
-    requires { ⌜ Room k (now t) (now p) × (i < 256) ⌝ }
-    ensures { λ r. ⌜ r ≡ at (view k (now (t .entry)) (now (p .entry))) PAYLOAD (256 * d + i) ⌝ }
+    requires { ⌜ Room k (now t) (now p) × (i < ENTRY-BYTES) ⌝ }
+    ensures { λ r. ⌜ r ≡ at (view k (now (t .entry)) (now (p .entry))) PAYLOAD (ENTRY-BYTES * d + i) ⌝ }
 {
     if (d as usize) < k.datas {
-        return p[256 * (d as usize) + i] as u64;
+        return p[ENTRY_BYTES * (d as usize) + i] as u64;
     }
     0
 }

@@ -2,6 +2,7 @@
 use mathlib.Core.Path.{sym}
 use native.Mathlib.Omega.{arith}
 use lib.ListN.{replicate}
+use Rattle.tables.specs.Limits.{ENTRY-BYTES}
 use Rattle.tables.specs.State.{view}
 use Rattle.tables.proofs.ViewLaws.{view-fullP}
 use Rattle.actions.proofs.ActionLaws.{write-out}
@@ -13,7 +14,7 @@ returns-2 : tie.Need-returns-2
 returns-2 c =
     let a = c .before .before .before .args in
     record {
-      is = sym (write-out (view (a .k) (a .t .now) (a .p .now)) (a .d) 0 (replicate 256 0) (omega (arith, view-fullP (a .k) (a .t .now) (a .p .now) (c .before .before .before .pre .bytes))));
+      is = sym (write-out (view (a .k) (a .t .now) (a .p .now)) (a .d) 0 (replicate ENTRY-BYTES 0) (omega (arith, view-fullP (a .k) (a .t .now) (a .p .now) (c .before .before .before .pre .bytes))));
       room = c .before .before .before .pre;
     }
 

@@ -4,9 +4,10 @@ use native.Mathlib.Omega.{arith}
 use mir.Syntax.{w64}
 use mir.ValLaws.{toZ-ofZ}
 use Rattle.tables.specs.Columns.{DEADLINE, DUE, TIMER-OWNER}
+use Rattle.tables.specs.Limits.{ALWAYS}
 use Rattle.tables.specs.State.{view}
 use Rattle.rules.specs.Actions.{earliest}
-use Rattle.rules.specs.Calls.{ALWAYS, sleep}
+use Rattle.rules.specs.Calls.{sleep}
 use Rattle.rules.proofs.Ready.{good-ready}
 use Prim.Native.Nat.{_-_}
 use Rattle.calls.proofs.CallLaws.{deadline-fits, due-fits}

@@ -2,14 +2,14 @@
 use Prim.Native.Nat.{_<_, _≤_}
 use mathlib.Core.Path.{refl}
 use native.Mathlib.Omega.{arith}
-use Rattle.rules.specs.Terms.{OLDEST}
+use Rattle.tables.specs.Limits.{MONITOR-FACTOR, OLDEST}
 use Rattle.rules.proofs.Ready.{good-ready}
 use Rattle.calls.proofs.CallLaws.{below, monitor-age-fits, not-below}
 use borrow.Author.Needs.{needs}
 use Rattle.calls.proofs.ties.begin_watch.Statement.{statement}
 use Rattle.calls.proofs.ties.begin_watch.Tie as tie
 
-few : (c : tie.After-slice-known2) → (c .before .before .before .before .get .result ≤ OLDEST) × (c .before .before .before .before .before .before .before .monitor-for .result < 128)
+few : (c : tie.After-slice-known2) → (c .before .before .before .before .get .result ≤ OLDEST) × (c .before .before .before .before .before .before .before .monitor-for .result < MONITOR-FACTOR)
 few c =
     let c1 = c .before .before .before .before in
     let c2 = c1 .before .before in

@@ -2,6 +2,7 @@
 use native.Mathlib.Omega.{arith}
 use borrow.Author.Tests.{ltb-false}
 use borrow.Author.Needs.{needs}
+use Rattle.tables.specs.Limits.{LONGEST}
 use Rattle.calls.proofs.timers.after_in.Statement.{statement}
 use Rattle.calls.proofs.timers.after_in.Tie as tie
 
@@ -9,7 +10,7 @@ arm-in-requires : tie.Need-arm-in-requires
 arm-in-requires c κs =
     let c1 = c .before .before .before in
     let a = c1 .args in
-    (c1 .pre, λ h. omega (arith, ltb-false 4294967295 (a .delay) h))
+    (c1 .pre, λ h. omega (arith, ltb-false LONGEST (a .delay) h))
 
 returns : tie.Need-returns
 returns c =

@@ -2,6 +2,7 @@
 use native.Mathlib.Omega.{arith}
 use lib.Dec.{eqb, ltb}
 use borrow.Author.Tests.{ltb-false}
+use Rattle.tables.specs.Limits.{LONGEST}
 use Rattle.calls.proofs.CallLaws.{or-right}
 use borrow.Author.Needs.{needs}
 use Rattle.calls.proofs.timers.every_in.Statement.{statement}
@@ -11,7 +12,7 @@ arm-in-requires : tie.Need-arm-in-requires
 arm-in-requires c κs =
     let c1 = c .before .before .before in
     let a = c1 .args in
-    (c1 .pre, λ h. omega (arith, ltb-false 4294967295 (a .interval) (or-right (eqb (a .interval) 0) (ltb 4294967295 (a .interval)) h)))
+    (c1 .pre, λ h. omega (arith, ltb-false LONGEST (a .interval) (or-right (eqb (a .interval) 0) (ltb LONGEST (a .interval)) h)))
 
 returns : tie.Need-returns
 returns c =

@@ -3,6 +3,7 @@ use Prim.Native.Nat.{_≤_, _-_}
 use mathlib.Core.Path.{_≡_, refl, ap}
 use native.Mathlib.Omega.{arith}
 use lib.ListN.{length}
+use Rattle.tables.specs.Limits.{MOST-ACTORS}
 use Rattle.tables.specs.State.{view, Room}
 use Rattle.rules.specs.Calls.{Told, told, cutLinks}
 use Rattle.endings.specs.Asked.{Going}
@@ -29,7 +30,7 @@ cut-link-requires c κs = let a = c .before .before .before .before .before .bef
     let s = view (a .k) (a .t .now) (a .p .now) in
     let e : view (a .k) (l .t) (l .p) ≡ cutLinks (a .k) (a .a) (a .me) (a .reason) (l .b) (told 0 0 s) .state = ap (λ (u : Told). u .state) (l .inv .3) in
     let g : Going (a .k) (a .a) (a .me) (view (a .k) (l .t) (l .p)) = rw e (links-going (a .k) (a .a) (a .me) s (h .1) (a .reason) (l .b)) in
-    let o : l .b ≤ 64 = omega (arith, h .0 .caps .fewActors) in
+    let o : l .b ≤ MOST-ACTORS = omega (arith, h .0 .caps .fewActors) in
     (l .inv .0, g, omega arith, record { sent = omega (arith, l .inv .4 .sent); lost = omega (arith, l .inv .4 .lost) })
 
 loop-again : tie.Need-loop-again Inv-loop μ-loop
@@ -53,7 +54,7 @@ returns c = let a = c .before .before .before .before .args in
     let l = c .before .loop in
     let e : l .b ≡ a .k .actors = omega arith in
     let f = rw e at (l .inv .3) in
-    let o : a .k .actors ≤ 64 = c .before .before .before .before .pre .0 .caps .fewActors in (
+    let o : a .k .actors ≤ MOST-ACTORS = c .before .before .before .before .pre .0 .caps .fewActors in (
       record { sent = ap (λ (u : Told). u .sent) f; lost = ap (λ (u : Told). u .lost) f; left = record { is = ap (λ (u : Told). u .state) f; room = l .inv .0 } },
       record { sent = omega (arith, l .inv .4 .sent); lost = omega (arith, l .inv .4 .lost) },
     )

@@ -3,6 +3,7 @@ use Prim.Native.Nat.{_≤_, _-_, _+_}
 use mathlib.Core.Path.{_≡_, refl, ap}
 use native.Mathlib.Omega.{arith}
 use lib.ListN.{length}
+use Rattle.tables.specs.Limits.{MOST-ACTORS, MOST-MONITORS}
 use Rattle.tables.specs.State.{view, Room}
 use Rattle.rules.specs.Calls.{Told, cutMonitors}
 use Rattle.endings.specs.Asked.{Going}
@@ -13,7 +14,7 @@ use Rattle.endings.proofs.notices.cut_monitors.Statement.{statement}
 use Rattle.endings.proofs.notices.cut_monitors.Tie as tie
 
 abbrev Inv-loop : tie.InvT-loop
-Inv-loop t₀ p₀ k a me reason slots m₀ i₀ t p m i = Room k t p × (slots ≡ k .monitors) × (i ≤ slots) × (toldOf m (view k t p) ≡ cutMonitors k a me reason i (toldOf m₀ (view k t₀ p₀))) × Few m (64 + i) × (length t ≡ length t₀) × (length p ≡ length p₀)
+Inv-loop t₀ p₀ k a me reason slots m₀ i₀ t p m i = Room k t p × (slots ≡ k .monitors) × (i ≤ slots) × (toldOf m (view k t p) ≡ cutMonitors k a me reason i (toldOf m₀ (view k t₀ p₀))) × Few m (MOST-ACTORS + i) × (length t ≡ length t₀) × (length p ≡ length p₀)
 
 abbrev μ-loop : tie.MeasureT-loop
 μ-loop t₀ p₀ k a me reason slots m₀ i₀ t p m i = slots - i
@@ -30,7 +31,7 @@ cut-monitor-requires c κs = let a = c .before .before .before .before .before .
     let i : l .i ≤ a .k .monitors = omega arith in
     let e : view (a .k) (l .t) (l .p) ≡ cutMonitors (a .k) (a .a) (a .me) (a .reason) (l .i) (toldOf (a .n) s) .state = ap (λ (u : Told). u .state) (l .inv .3) in
     let g : Going (a .k) (a .a) (a .me) (view (a .k) (l .t) (l .p)) = rw e (monitors-going (a .k) (a .a) (a .me) s (h .1) (a .n .sent) (a .n .lost) (a .reason) (l .i) i) in
-    let o : l .i ≤ 128 = omega (arith, h .0 .caps .fewMonitors) in
+    let o : l .i ≤ MOST-MONITORS = omega (arith, h .0 .caps .fewMonitors) in
     (l .inv .0, g, omega arith, record { sent = omega (arith, l .inv .4 .sent); lost = omega (arith, l .inv .4 .lost) })
 
 loop-again : tie.Need-loop-again Inv-loop μ-loop

@@ -3,6 +3,7 @@ use mathlib.Core.Path.{sym}
 use native.Mathlib.Nat.{lt-of-le-of-lt, le-add-left}
 use native.Mathlib.Omega.{arith}
 use lib.Seq.{set-out}
+use Rattle.pools.specs.Bits.{WORD-BITS}
 use Rattle.pools.proofs.BitLaws.{marked-fits}
 use borrow.Author.Needs.{needs}
 use Rattle.pools.proofs.bits.release.Statement.{statement}
@@ -12,14 +13,14 @@ mul-w : tie.Need-mul-w
 mul-w c =
     record {
       fits = rw (c .before .bit-of .ensures, c .power .ensures)
-          (lt-of-le-of-lt (le-add-left _ _) (marked-fits _ _ 64 (omega arith) (c .before .before .slice-known2 .given _ .fits)));
+          (lt-of-le-of-lt (le-add-left _ _) (marked-fits _ _ WORD-BITS (omega arith) (c .before .before .slice-known2 .given _ .fits)));
     }
 
 add-w : tie.Need-add-w
 add-w c =
     record {
       fits = rw (c .before .bit-of .ensures, c .power .ensures)
-          (marked-fits _ _ 64 (omega arith) (c .before .before .slice-known2 .given _ .fits));
+          (marked-fits _ _ WORD-BITS (omega arith) (c .before .before .slice-known2 .given _ .fits));
     }
 
 returns : tie.Need-returns

@@ -1,5 +1,4 @@
 -- `runtime::start::state_caps` meets its contract: one store after the other. Assumes nothing.
-use mathlib.Core.Path.{_∙_}
 use Rattle.rules.specs.Host.{stated}
 use borrow.Author.Needs.{needs}
 use Rattle.runtime.proofs.start.state_caps.Statement.{statement}

@@ -5,7 +5,7 @@ use Rattle.sound.proofs.every.one.Statement.{statement}
 use Rattle.sound.proofs.every.one.Tie as tie
 
 spare-ok-requires : tie.Need-spare-ok-requires
-spare-ok-requires c κs = (search needs, rw (c .enum-told .given .1) at (c .before .before .before .before .pre .1))
+spare-ok-requires c κs = search needs
 
 slot-ok-requires : tie.Need-slot-ok-requires
 slot-ok-requires c κs = let s = c .before .before .before .before in (search needs, omega (arith, s .pre .0 .caps .fewActors, rw (c .enum-told4 .given .1) at (s .pre .1)))

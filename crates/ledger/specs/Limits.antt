@@ -1,0 +1,81 @@
+-- The limits of document 01 by name. Assumes nothing.
+use Prim.Native.Nat.{ℕ, _-_, _^_}
+
+-- ---- ids: "An actor or timer id is age × 64 + slot, a monitor id age × 128 + slot"; every slot is below the factor
+abbrev pub ACTOR-FACTOR : ℕ
+ACTOR-FACTOR = 64
+
+abbrev pub TIMER-FACTOR : ℕ
+TIMER-FACTOR = 64
+
+abbrev pub MONITOR-FACTOR : ℕ
+MONITOR-FACTOR = 128
+
+-- "A slot's age is .. at most 33,000,000"
+abbrev pub OLDEST : ℕ
+OLDEST = 33000000
+
+-- ---- actors
+-- "Priorities are 0 (first) to 3"
+abbrev pub LAST-LEVEL : ℕ
+LAST-LEVEL = 3
+
+-- "any reason from 0 to 65,535"
+abbrev pub LAST-REASON : ℕ
+LAST-REASON = 65535
+
+-- ---- time
+-- "The clock counts microseconds from 0, at most 2^62"
+abbrev pub CLOCK-END : ℕ
+CLOCK-END = 2 ^ 62
+
+-- "a delay of 0 to 2^32 - 1 µs", "an interval of 1 to 2^32 - 1", "Advance adds 0 to 2^32 - 1"
+abbrev pub LONGEST : ℕ
+LONGEST = 2 ^ 32 - 1
+
+-- "a positive [wait], at most 2^31 - 1"
+abbrev pub LONGEST-WAIT : ℕ
+LONGEST-WAIT = 2 ^ 31 - 1
+
+-- ---- messages
+-- "Payloads are 0 to 252 bytes"
+abbrev pub PAYLOAD-MOST : ℕ
+PAYLOAD-MOST = 252
+
+-- "class in the top four bits (0 notify, 1 request, 2 reply, 3 timer, 4 exit ..)"
+abbrev pub NOTIFY-CLASS : ℕ
+NOTIFY-CLASS = 0
+
+abbrev pub TIMER-CLASS : ℕ
+TIMER-CLASS = 3
+
+abbrev pub EXIT-CLASS : ℕ
+EXIT-CLASS = 4
+
+-- "classes 5 to 14 or above 15 .. are malformed"
+abbrev pub LAST-CLASS : ℕ
+LAST-CLASS = 4
+
+-- "with 4,294,967,295, 15 and 134,217,727 for any"
+abbrev pub ANY-SENDER : ℕ
+ANY-SENDER = 4294967295
+
+abbrev pub ANY-CLASS : ℕ
+ANY-CLASS = 15
+
+abbrev pub ANY-TAG : ℕ
+ANY-TAG = 134217727
+
+-- ---- records: "two-byte length of what follows, two-byte kind, fields"; "Tick: kind 1, timer id (4)"
+abbrev pub TICK-LENGTH : ℕ
+TICK-LENGTH = 6
+
+abbrev pub TICK-KIND : ℕ
+TICK-KIND = 1
+
+-- "Exit: kind 2, actor (4), reason (2), monitor id or 0 for a link (4)"
+abbrev pub EXIT-LENGTH : ℕ
+EXIT-LENGTH = 12
+
+abbrev pub EXIT-KIND : ℕ
+EXIT-KIND = 2

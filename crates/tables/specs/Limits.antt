@@ -1,0 +1,97 @@
+-- The numbers of document 01 that stand for a limit, each by its meaning: two that are equal today are two names. Assumes nothing.
+use Prim.Native.Nat.{ℕ, _+_, _-_, _^_}
+
+-- ---- "Range at start": the most that each pool can have
+abbrev pub MOST-ACTORS : ℕ
+MOST-ACTORS = 64
+
+abbrev pub MOST-MAILS : ℕ
+MOST-MAILS = 256
+
+abbrev pub MOST-DATAS : ℕ
+MOST-DATAS = 256
+
+abbrev pub MOST-LINKS : ℕ
+MOST-LINKS = 128
+
+abbrev pub MOST-MONITORS : ℕ
+MOST-MONITORS = 128
+
+abbrev pub MOST-TIMERS : ℕ
+MOST-TIMERS = 64
+
+-- ---- "An actor or timer id is age × 64 + slot, a monitor id age × 128 + slot"
+abbrev pub ACTOR-FACTOR : ℕ
+ACTOR-FACTOR = 64
+
+abbrev pub TIMER-FACTOR : ℕ
+TIMER-FACTOR = 64
+
+abbrev pub MONITOR-FACTOR : ℕ
+MONITOR-FACTOR = 128
+
+-- "A slot's age is .. at most 33,000,000"
+abbrev pub OLDEST : ℕ
+OLDEST = 33000000
+
+-- ---- "data entries, 256 bytes each": "a four-byte little-endian header and the payload"; "Payloads are 0 to 252 bytes"
+abbrev pub ENTRY-BYTES : ℕ
+ENTRY-BYTES = 256
+
+abbrev pub HEADER-BYTES : ℕ
+HEADER-BYTES = 4
+
+abbrev pub PAYLOAD-MOST : ℕ
+PAYLOAD-MOST = 252
+
+-- ---- "with 4,294,967,295, 15 and 134,217,727 for any"
+abbrev pub ANY-SENDER : ℕ
+ANY-SENDER = 4294967295
+
+abbrev pub ANY-CLASS : ℕ
+ANY-CLASS = 15
+
+abbrev pub ANY-TAG : ℕ
+ANY-TAG = 134217727
+
+-- ---- "Priorities are 0 (first) to 3": the last level, and how many there are
+abbrev pub LAST-LEVEL : ℕ
+LAST-LEVEL = 3
+
+abbrev pub LEVELS : ℕ
+LEVELS = LAST-LEVEL + 1
+
+-- ---- times. "The clock counts microseconds from 0, at most 2^62"
+abbrev pub CLOCK-END : ℕ
+CLOCK-END = 2 ^ 62
+
+-- "a delay of 0 to 2^32 - 1 µs"; "Advance adds 0 to 2^32 - 1"
+abbrev pub LONGEST : ℕ
+LONGEST = 2 ^ 32 - 1
+
+-- "a positive one, at most 2^31 - 1": a wait in milliseconds
+abbrev pub LONGEST-WAIT : ℕ
+LONGEST-WAIT = 2 ^ 31 - 1
+
+-- "due times at most 2^62 + 2^32"; a deadline "at most 2^62 + 2^41"
+abbrev pub DUE-END : ℕ
+DUE-END = 2 ^ 62 + 2 ^ 32
+
+abbrev pub DEADLINE-END : ℕ
+DEADLINE-END = 2 ^ 62 + 2 ^ 41
+
+-- no time is later
+abbrev pub ALWAYS : ℕ
+ALWAYS = 2 ^ 64 - 1
+
+-- ---- exit: "a reason .. to 65,535"
+abbrev pub LAST-REASON : ℕ
+LAST-REASON = 65535
+
+-- ---- "the number of words needed .., at most 4,096"
+abbrev pub WORDS-MOST : ℕ
+WORDS-MOST = 4096
+
+-- a slot, an entry or a count below this is small enough that no sum of a few of them overflows
+abbrev pub SAFE : ℕ
+SAFE = 4096
