@@ -1,12 +1,32 @@
+//! Writes the columns of docs/LAYOUT.md as constants, for layout.rs.
 //! FG_LIB names the folder of libruntime.a and librecords.a. Without it the test runs against a
 //! stand-in made of the model itself (`cfg(self_test)`), which tests the test.
 
+use numbers::document::Document;
+use std::path::Path;
+
 fn main() {
+    let document = Document::read().unwrap_or_else(|what| panic!("{what}"));
+    let folder = std::env::var("OUT_DIR").expect("cargo names the folder");
+    std::fs::write(Path::new(&folder).join("columns.rs"), columns(&document)).expect("the folder is cargo's own");
     println!("cargo:rerun-if-env-changed=FG_LIB");
     match std::env::var("FG_LIB") {
         Ok(folder) if !folder.is_empty() => link(&folder),
         _ => println!("cargo:rustc-cfg=self_test"),
     }
+}
+
+/// The number of each column, the size of each, and the sum of the sizes.
+fn columns(document: &Document) -> String {
+    let mut text = String::new();
+    for row in document.rows() {
+        text += &format!("pub const {}: usize = {};\n", row.name, row.number);
+    }
+    text + &format!(
+        "pub const SIZES: [Amount; REST] = {:?};\npub const WORDS: Amount = {:?};\n",
+        document.sizes(),
+        document.words
+    )
 }
 
 /// Links both archives, the runtime's first: it may hold the functions of records too.

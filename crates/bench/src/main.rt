@@ -9,12 +9,15 @@ use runtime::host::fg_receive;
 use runtime::host::fg_spawn;
 use runtime::show::show;
 use runtime::start::fg_start;
-
-const ANY_SENDER: u64 = 4_294_967_295;
-
-const ANY_CLASS: u64 = 15;
-
-const ANY_TAG: u64 = 134_217_727;
+use tables::limits::ANY_CLASS;
+use tables::limits::ANY_SENDER;
+use tables::limits::ANY_TAG;
+use tables::limits::MOST_ACTORS;
+use tables::limits::MOST_DATAS;
+use tables::limits::MOST_LINKS;
+use tables::limits::MOST_MAILS;
+use tables::limits::MOST_MONITORS;
+use tables::limits::MOST_TIMERS;
 
 const CRASH: u64 = 65_533;
 
@@ -73,8 +76,22 @@ fn notice(t: &[u64], p: &[u8]) {
     number_line(r.actor as u64);
 }
 
+// Starts the largest runtime.
+fn start_largest(t: &mut [u64], p: &mut [u8]) {
+    fg_start(
+        t,
+        p,
+        MOST_ACTORS as u64,
+        MOST_MAILS as u64,
+        MOST_DATAS as u64,
+        MOST_LINKS as u64,
+        MOST_MONITORS as u64,
+        MOST_TIMERS as u64,
+    );
+}
+
 fn run(t: &mut [u64], p: &mut [u8]) {
-    fg_start(t, p, 64, 256, 256, 128, 128, 64);
+    start_largest(t, p);
     new_track(t, p);
     new_track(t, p);
     turn(t, p);

@@ -1,4 +1,6 @@
 // One word or byte, or two words, of a small runtime broken: the buffers must be refused.
+use crate::places::byte_at;
+use crate::places::word_at;
 use crate::scene::bring;
 use runtime::host::fg_report;
 use sound::sound;
@@ -34,40 +36,50 @@ pub fn set(t: &mut [u64], i: usize, x: u64) {
     }
 }
 
+// Byte i becomes x.
 fn set_byte(p: &mut [u8], i: usize, x: u8) {
     if i < p.len() {
         p[i] = x;
     }
 }
 
-pub fn word(n: u64, name: &[u8], i: usize, x: u64) -> u64 {
-    let mut t = [0u64; 121];
-    let mut p = [0u8; 1536];
+// Word i of column c becomes x.
+pub fn word(n: u64, name: &[u8], c: usize, i: usize, x: u64) -> u64 {
+    let mut t = [0u64; 256];
+    let mut p = [0u8; 2048];
     bring(&mut t, &mut p);
-    set(&mut t, i, x);
+    set(&mut t, word_at(c, i), x);
     tell(&mut t, &mut p, n, name)
 }
 
-pub fn byte(n: u64, name: &[u8], i: usize, x: u8) -> u64 {
-    let mut t = [0u64; 121];
-    let mut p = [0u8; 1536];
+// Byte j of data entry e becomes x.
+pub fn byte(n: u64, name: &[u8], e: usize, j: usize, x: u8) -> u64 {
+    let mut t = [0u64; 256];
+    let mut p = [0u8; 2048];
     bring(&mut t, &mut p);
-    set_byte(&mut p, i, x);
+    set_byte(&mut p, byte_at(e, j), x);
     tell(&mut t, &mut p, n, name)
 }
 
-// A place in the table, and the word to write there.
+// An entry's word of a column, and what it becomes.
 pub struct Change {
-    pub at: usize,
+    pub column: usize,
+    pub entry: usize,
     pub to: u64,
 }
 
+// The change of one word.
+pub fn becomes(column: usize, entry: usize, to: u64) -> Change {
+    Change { column, entry, to }
+}
+
+// Two words become others.
 pub fn two(n: u64, name: &[u8], a: Change, b: Change) -> u64 {
-    let mut t = [0u64; 121];
-    let mut p = [0u8; 1536];
+    let mut t = [0u64; 256];
+    let mut p = [0u8; 2048];
     bring(&mut t, &mut p);
-    set(&mut t, a.at, a.to);
-    set(&mut t, b.at, b.to);
+    set(&mut t, word_at(a.column, a.entry), a.to);
+    set(&mut t, word_at(b.column, b.entry), b.to);
     tell(&mut t, &mut p, n, name)
 }
 

@@ -3,102 +3,168 @@
 use breaks::set;
 use breaks::state;
 use breaks::tell;
+use places::least;
+use places::word_at;
 use runtime::start::fg_start;
+use tables::columns::ACTORS;
+use tables::columns::CLOCK;
+use tables::columns::DATA_FREE;
+use tables::columns::DATAS;
+use tables::columns::LINKS;
+use tables::columns::MAIL_FREE;
+use tables::columns::MAILS;
+use tables::columns::MONITORS;
+use tables::columns::RUNNING;
+use tables::columns::TIMERS;
+use tables::limits::CLOCK_END;
+use tables::limits::MOST_ACTORS;
+use tables::limits::MOST_DATAS;
+use tables::limits::MOST_LINKS;
+use tables::limits::MOST_MAILS;
+use tables::limits::MOST_MONITORS;
+use tables::limits::MOST_TIMERS;
 
 mod breaks;
 mod checks;
 mod places;
 mod scene;
 
+// Starts the largest runtime.
+fn start_largest(t: &mut [u64], p: &mut [u8]) {
+    fg_start(
+        t,
+        p,
+        MOST_ACTORS as u64,
+        MOST_MAILS as u64,
+        MOST_DATAS as u64,
+        MOST_LINKS as u64,
+        MOST_MONITORS as u64,
+        MOST_TIMERS as u64,
+    );
+}
+
 // The largest runtime.
 fn largest() {
     let mut t = [0u64; 4096];
     let mut p = [0u8; 65536];
-    fg_start(&mut t, &mut p, 64, 256, 256, 128, 128, 64);
+    start_largest(&mut t, &mut p);
     state(&t, &p, b"largest");
 }
 
-// The largest runtime with word i of its head broken.
-fn larger(n: u64, name: &[u8], i: usize, x: u64) -> u64 {
+// The largest runtime with column c of its head broken.
+fn larger(n: u64, name: &[u8], c: usize, x: u64) -> u64 {
     let mut t = [0u64; 4096];
     let mut p = [0u8; 65536];
-    fg_start(&mut t, &mut p, 64, 256, 256, 128, 128, 64);
-    set(&mut t, i, x);
+    start_largest(&mut t, &mut p);
+    set(&mut t, word_at(c, 0), x);
     tell(&mut t, &mut p, n, name)
 }
 
 // Each capacity one above its range.
 fn too_large(m: u64) -> u64 {
-    let mut n = larger(m, b"65 actors", 0, 65);
-    n = larger(n, b"257 mailbox entries", 1, 257);
-    n = larger(n, b"257 data entries", 2, 257);
-    n = larger(n, b"129 links", 3, 129);
-    n = larger(n, b"129 monitors", 4, 129);
-    n = larger(n, b"65 timers", 5, 65);
+    let mut n = larger(m, b"65 actors", ACTORS, MOST_ACTORS as u64 + 1);
+    n = larger(n, b"257 mailbox entries", MAILS, MOST_MAILS as u64 + 1);
+    n = larger(n, b"257 data entries", DATAS, MOST_DATAS as u64 + 1);
+    n = larger(n, b"129 links", LINKS, MOST_LINKS as u64 + 1);
+    n = larger(n, b"129 monitors", MONITORS, MOST_MONITORS as u64 + 1);
+    n = larger(n, b"65 timers", TIMERS, MOST_TIMERS as u64 + 1);
+    n
+}
+
+// Starts the smallest runtime in the first n words.
+fn start_in(t: &mut [u64], p: &mut [u8], n: usize) {
+    if n <= t.len() {
+        fg_start(&mut t[0..n], p, 1, 1, 1, 0, 0, 0);
+    }
+}
+
+// A line that says whether the first n words and all bytes are sound.
+fn state_in(t: &[u64], p: &[u8], n: usize, name: &[u8]) {
+    if n <= t.len() {
+        state(&t[0..n], p, name);
+    }
+}
+
+// A line that says whether the first m words and all bytes are refused.
+fn tell_in(t: &mut [u64], p: &mut [u8], m: usize, n: u64, name: &[u8]) -> u64 {
+    if m <= t.len() {
+        return tell(&mut t[0..m], p, n, name);
+    }
     n
 }
 
 // The smallest runtime, in buffers of just the needed lengths.
 fn smallest() {
-    let mut t = [0u64; 39];
+    let mut t = [0u64; 64];
     let mut p = [0u8; 256];
-    fg_start(&mut t, &mut p, 1, 1, 1, 0, 0, 0);
-    state(&t, &p, b"smallest");
+    start_in(&mut t, &mut p, least());
+    state_in(&t, &p, least(), b"smallest");
 }
 
-// The smallest runtime with word i of its head broken.
-fn smaller(n: u64, name: &[u8], i: usize, x: u64) -> u64 {
+// The smallest runtime with column c of its head broken.
+fn smaller(n: u64, name: &[u8], c: usize, x: u64) -> u64 {
     let mut t = [0u64; 64];
     let mut p = [0u8; 512];
     fg_start(&mut t, &mut p, 1, 1, 1, 0, 0, 0);
-    set(&mut t, i, x);
+    set(&mut t, word_at(c, 0), x);
     tell(&mut t, &mut p, n, name)
 }
 
 // Each capacity one below its range, and the head's words where nothing else is broken.
 fn too_small(m: u64) -> u64 {
-    let mut n = smaller(m, b"no actors", 0, 0);
-    n = smaller(n, b"no mailbox entries", 1, 0);
-    n = smaller(n, b"no data entries", 2, 0);
-    n = smaller(n, b"clock past its end, alone", 6, 0x4000_0000_0000_0001);
-    n = smaller(n, b"running: no such slot, alone", 7, 2);
+    let mut n = smaller(m, b"no actors", ACTORS, 0);
+    n = smaller(n, b"no mailbox entries", MAILS, 0);
+    n = smaller(n, b"no data entries", DATAS, 0);
+    n = smaller(n, b"clock past its end, alone", CLOCK, CLOCK_END + 1);
+    n = smaller(n, b"running: no such slot, alone", RUNNING, 2);
     n
 }
 
 // The smallest runtime written by hand: its capacities and its free bits.
 fn by_hand(t: &mut [u64]) {
-    set(t, 0, 1);
-    set(t, 1, 1);
-    set(t, 2, 1);
-    set(t, 16, 1);
-    set(t, 20, 1);
+    set(t, word_at(ACTORS, 0), 1);
+    set(t, word_at(MAILS, 0), 1);
+    set(t, word_at(DATAS, 0), 1);
+    set(t, word_at(MAIL_FREE, 0), 1);
+    set(t, word_at(DATA_FREE, 0), 1);
 }
 
+// In just the needed words and bytes it is sound.
 fn enough() {
-    let mut t = [0u64; 39];
+    let mut t = [0u64; 64];
     let p = [0u8; 256];
     by_hand(&mut t);
-    state(&t, &p, b"smallest, written by hand,");
+    state_in(&t, &p, least(), b"smallest, written by hand,");
 }
 
+// One less.
+fn less(n: usize) -> usize {
+    if n == 0 {
+        return 0;
+    }
+    n - 1
+}
+
+// With one word fewer it is refused.
 fn short_table(n: u64) -> u64 {
-    let mut t = [0u64; 38];
+    let mut t = [0u64; 64];
     let mut p = [0u8; 256];
     by_hand(&mut t);
-    tell(&mut t, &mut p, n, b"table one word short")
+    tell_in(&mut t, &mut p, less(least()), n, b"table one word short")
 }
 
+// With one byte fewer it is refused.
 fn short_area(n: u64) -> u64 {
-    let mut t = [0u64; 39];
+    let mut t = [0u64; 64];
     let mut p = [0u8; 255];
     by_hand(&mut t);
-    tell(&mut t, &mut p, n, b"payload area one byte short")
+    tell_in(&mut t, &mut p, least(), n, b"payload area one byte short")
 }
 
 // A small runtime with one of everything.
 fn small() {
-    let mut t = [0u64; 121];
-    let mut p = [0u8; 1536];
+    let mut t = [0u64; 256];
+    let mut p = [0u8; 2048];
     scene::bring(&mut t, &mut p);
     state(&t, &p, b"small");
 }

@@ -1,62 +1,74 @@
-// Where the columns of the small runtime lie: 5 actors, 5 mailbox entries, 6 data entries, 3 links, 2 monitors, 2 timers.
-pub const CLOCK: usize = 6;
+// Where words and bytes of the small runtime lie, as the library's own layout has it.
+use tables::Caps;
+use tables::columns::REST;
+use tables::layout::place_of;
+use tables::layout::words_needed;
+use tables::limits::ENTRY_BYTES;
 
-pub const RUNNING: usize = 7;
+// The capacities of the small runtime.
+pub const SMALL_ACTORS: usize = 5;
 
-pub const QUEUED: usize = 8;
+pub const SMALL_MAILS: usize = 5;
 
-pub const ARRIVED: usize = 9;
+pub const SMALL_DATAS: usize = 6;
 
-pub const SPARE: usize = 10;
+pub const SMALL_LINKS: usize = 3;
 
-pub const MAIL_FREE: usize = 16;
+pub const SMALL_MONITORS: usize = 2;
 
-pub const DATA_FREE: usize = 20;
+pub const SMALL_TIMERS: usize = 2;
 
-pub const STATE: usize = 24;
+// A place past every buffer: what is written there changes nothing, and is not refused.
+const NOWHERE: usize = 0x1_0000_0000;
 
-pub const PRIORITY: usize = 29;
+// Word i of column c.
+pub fn word_at(c: usize, i: usize) -> usize {
+    if c >= REST {
+        return NOWHERE;
+    }
+    let small = Caps {
+        actors: SMALL_ACTORS,
+        mails: SMALL_MAILS,
+        datas: SMALL_DATAS,
+        links: SMALL_LINKS,
+        monitors: SMALL_MONITORS,
+        timers: SMALL_TIMERS,
+    };
+    let place = place_of(small, c);
+    if i >= place.size {
+        return NOWHERE;
+    }
+    add(place.from, i)
+}
 
-pub const REASON: usize = 34;
+// Byte j of data entry e.
+pub fn byte_at(e: usize, j: usize) -> usize {
+    if e >= 256 {
+        return NOWHERE;
+    }
+    add(ENTRY_BYTES * e, j)
+}
 
-pub const AGE: usize = 39;
+// The words of the smallest runtime.
+pub fn least() -> usize {
+    let smallest = Caps {
+        actors: 1,
+        mails: 1,
+        datas: 1,
+        links: 0,
+        monitors: 0,
+        timers: 0,
+    };
+    words_needed(smallest)
+}
 
-pub const HAND: usize = 44;
-
-pub const WANT_SENDER: usize = 49;
-
-pub const WANT_CLASS: usize = 54;
-
-pub const WANT_TAG: usize = 59;
-
-pub const DEADLINE: usize = 64;
-
-pub const QUEUE: usize = 69;
-
-pub const MAIL_OWNER: usize = 74;
-
-pub const MAIL_DATA: usize = 79;
-
-pub const ARRIVAL: usize = 84;
-
-pub const SENDER: usize = 89;
-
-pub const LENGTH: usize = 95;
-
-pub const LINK_ONE: usize = 101;
-
-pub const LINK_TWO: usize = 104;
-
-pub const WATCHER: usize = 107;
-
-pub const WATCHED: usize = 109;
-
-pub const MONITOR_AGE: usize = 111;
-
-pub const TIMER_OWNER: usize = 113;
-
-pub const TIMER_AGE: usize = 115;
-
-pub const DUE: usize = 117;
-
-pub const INTERVAL: usize = 119;
+// The sum of two small numbers.
+fn add(a: usize, b: usize) -> usize {
+    if a >= 65536 {
+        return NOWHERE;
+    }
+    if b >= 65536 {
+        return NOWHERE;
+    }
+    a + b
+}

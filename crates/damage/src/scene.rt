@@ -1,4 +1,10 @@
 // A small runtime in which there is one of everything.
+use crate::places::SMALL_ACTORS;
+use crate::places::SMALL_DATAS;
+use crate::places::SMALL_LINKS;
+use crate::places::SMALL_MAILS;
+use crate::places::SMALL_MONITORS;
+use crate::places::SMALL_TIMERS;
 use runtime::host::fg_advance;
 use runtime::host::fg_every;
 use runtime::host::fg_exit;
@@ -10,15 +16,29 @@ use runtime::host::fg_receive;
 use runtime::host::fg_spawn;
 use runtime::host::fg_yield;
 use runtime::start::fg_start;
-
-const ANY_SENDER: u64 = 4_294_967_295;
+use tables::limits::ANY_SENDER;
+use tables::limits::ANY_TAG;
 
 // The last tag that a notification may have.
-const LAST_TAG: u64 = 134_217_726;
+const LAST_TAG: u64 = ANY_TAG - 1;
+
+// Starts the small runtime.
+fn start_small(t: &mut [u64], p: &mut [u8]) {
+    fg_start(
+        t,
+        p,
+        SMALL_ACTORS as u64,
+        SMALL_MAILS as u64,
+        SMALL_DATAS as u64,
+        SMALL_LINKS as u64,
+        SMALL_MONITORS as u64,
+        SMALL_TIMERS as u64,
+    );
+}
 
 // A fresh runtime at 1,000 µs, and actor 64, which runs first.
 fn begun(t: &mut [u64], p: &mut [u8]) {
-    fg_start(t, p, 5, 5, 6, 3, 2, 2);
+    start_small(t, p);
     fg_advance(t, p, 1000);
     fg_spawn(t, p, 0);
 }
@@ -63,6 +83,7 @@ fn told(t: &mut [u64], p: &mut [u8]) {
     fg_notify(t, p, 66, LAST_TAG, b"xy");
 }
 
+// All of that, one after the other.
 fn grown(t: &mut [u64], p: &mut [u8]) {
     begun(t, p);
     joined(t, p);

@@ -1,6 +1,7 @@
 //! One host call as a value, its answer as a value, and how to make it on either side.
 
 use crate::ffi;
+use crate::layout::table_suffices;
 use model::limits::Capacities;
 use model::{Advanced, Ended, Made, Model, Received, Report, Shown, Turn};
 
@@ -111,7 +112,7 @@ impl Call {
     /// The same call on the model, whose buffers would have so many words and bytes.
     pub fn on_model(&self, m: &mut Model, words: usize, bytes: usize) -> Answer {
         match self {
-            Call::Start(caps) => Answer::Number(m.start(words as u64, bytes as u64, *caps)),
+            Call::Start(caps) => Answer::Number(m.start(table_suffices(words, caps), bytes as u64, *caps)),
             Call::Spawn(priority) => Answer::Made(m.spawn(*priority)),
             Call::Next => Answer::Turn(m.next()),
             Call::Yield => Answer::Number(m.yield_now()),

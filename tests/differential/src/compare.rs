@@ -3,7 +3,7 @@
 use crate::call::{Answer, Call};
 use crate::layout;
 use model::answers::is_refusal;
-use model::limits::{bytes_needed, words_needed};
+use model::limits::bytes_needed;
 use model::{Model, State};
 use std::fmt;
 
@@ -32,7 +32,7 @@ impl Buffers {
     /// How many words and bytes the named capacities need; nothing where there are none.
     fn needed(&self) -> (usize, usize) {
         match layout::capacities(&self.words, &self.bytes) {
-            Some(caps) => (words_needed(&caps) as usize, bytes_needed(&caps) as usize),
+            Some(caps) => (layout::words_needed(&caps) as usize, bytes_needed(&caps) as usize),
             None => (0, 0),
         }
     }

@@ -97,15 +97,15 @@ impl Table<'_> {
 
     fn header(&mut self) {
         for pool in 0..6 {
-            self.word("capacity above its range", pool, 0, LARGEST[pool] + 1);
-            self.word("capacity far above its range", pool, 0, u64::MAX);
+            self.word("capacity above its range", CAPACITIES[pool], 0, LARGEST[pool] + 1);
+            self.word("capacity far above its range", CAPACITIES[pool], 0, u64::MAX);
         }
         for pool in 0..3 {
-            self.word("capacity below its range", pool, 0, 0);
+            self.word("capacity below its range", CAPACITIES[pool], 0, 0);
         }
         self.word("clock above its range", CLOCK, 0, MAX_CLOCK + 1);
-        for spare in FIRST_SPARE..=LAST_SPARE {
-            self.word("spare word", spare, 0, 1);
+        for spare in 0..SIZES[SPARE].fixed as usize {
+            self.word("spare word", SPARE, spare, 1);
         }
         self.running();
         let (queued, arrived) = (self.at(QUEUED, 0), self.at(ARRIVED, 0));

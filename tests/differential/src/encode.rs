@@ -12,8 +12,8 @@ pub fn encode(state: &State, words: &mut [u64], bytes: &mut [u8]) {
     let starts = starts(&caps);
     words[..starts[REST]].fill(0);
     bytes[..bytes_needed(&caps) as usize].fill(0);
-    words[..6].copy_from_slice(&caps);
     let mut put = |column: usize, entry: usize, value: u64| words[starts[column] + entry] = value;
+    (0..6).for_each(|pool| put(CAPACITIES[pool], 0, caps[pool]));
     put(CLOCK, 0, state.clock);
     put(RUNNING, 0, one_up(state.running()));
     put(QUEUED, 0, state.queue.len() as u64);

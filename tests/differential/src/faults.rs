@@ -1,13 +1,13 @@
 //! Faults that can be put into the stand-in, one at a time (environment variable FG_FAULT), to see that
 //! the differential test finds them: the wrong runtimes that document 01 names, and errors that are easy to make.
 
-use crate::layout::{self, DATA_FREE, FIRST_SPARE};
+use crate::layout::{self, CLOCK, DATA_FREE, SPARE};
 use model::limits::*;
 use model::state::{Activity, Reason, State};
 use model::Model;
 use std::sync::OnceLock;
 
-pub const NAMES: [&str; 19] = [
+pub const NAMES: [&str; 20] = [
     "all-unsound",
     "next-names-slot-0",
     "notify-stores-nothing",
@@ -27,6 +27,7 @@ pub const NAMES: [&str; 19] = [
     "refusal-writes",
     "spare-words-not-tested",
     "free-bytes-not-tested",
+    "start-wants-a-word-more",
 ];
 
 fn chosen() -> &'static str {
@@ -45,8 +46,8 @@ pub fn read(words: &[u64], bytes: &[u8]) -> Option<State> {
     if is("all-unsound") {
         return None;
     }
-    if is("spare-words-not-tested") && words.len() > FIRST_SPARE {
-        words[FIRST_SPARE] = 0;
+    if is("spare-words-not-tested") && words.len() > SPARE {
+        words[SPARE] = 0;
     }
     if is("free-bytes-not-tested") {
         clear_free_entries(&words, &mut bytes);
@@ -151,11 +152,11 @@ fn lower_new_ages(old: &State, new: &mut State) {
 /// Bends the buffers after a call.
 pub fn spoil(old: &Model, new: &Model, words: &mut [u64], bytes: &mut [u8]) {
     if is("refusal-writes") && old == new {
-        words.iter_mut().skip(6).take(1).for_each(|clock| *clock ^= 1);
+        words.iter_mut().skip(CLOCK).take(1).for_each(|clock| *clock ^= 1);
     }
     let Some(state) = &new.state else { return };
     if is("word-past-the-needed") {
-        let needed = words_needed(&state.capacities()) as usize;
+        let needed = layout::words_needed(&state.capacities()) as usize;
         words.iter_mut().skip(needed).take(1).for_each(|word| *word = 0);
     }
     if is("freed-bytes-stay") {

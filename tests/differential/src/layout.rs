@@ -1,79 +1,53 @@
-//! The two buffers as docs/LAYOUT.md describes them: where a column lies, and what the buffers say
-//! (`decode`, None where they are not sound).
+//! The two buffers as docs/LAYOUT.md describes them: where a column lies, by the document's own table, and what the
+//! buffers say (`decode`, None where they are not sound).
 
 use model::limits::*;
 use model::pool::Slots;
 use model::records::{parts, EXIT_BYTES, TICK_BYTES};
 use model::state::{Activity, Actor, Filter, Letter, Link, Message, Monitor, Reason, State, Timer};
 
-pub const CLOCK: usize = 6;
-pub const RUNNING: usize = 7;
-pub const QUEUED: usize = 8;
-pub const ARRIVED: usize = 9;
-pub const FIRST_SPARE: usize = 10;
-pub const LAST_SPARE: usize = 15;
-pub const MAIL_FREE: usize = 16;
-pub const DATA_FREE: usize = 17;
-pub const STATE: usize = 18;
-pub const PRIORITY: usize = 19;
-pub const REASON: usize = 20;
-pub const AGE: usize = 21;
-pub const HAND: usize = 22;
-pub const WANT_SENDER: usize = 23;
-pub const WANT_CLASS: usize = 24;
-pub const WANT_TAG: usize = 25;
-pub const DEADLINE: usize = 26;
-pub const QUEUE: usize = 27;
-pub const MAIL_OWNER: usize = 28;
-pub const MAIL_DATA: usize = 29;
-pub const ARRIVAL: usize = 30;
-pub const SENDER: usize = 31;
-pub const LENGTH: usize = 32;
-pub const LINK_ONE: usize = 33;
-pub const LINK_TWO: usize = 34;
-pub const WATCHER: usize = 35;
-pub const WATCHED: usize = 36;
-pub const MONITOR_AGE: usize = 37;
-pub const TIMER_OWNER: usize = 38;
-pub const TIMER_AGE: usize = 39;
-pub const DUE: usize = 40;
-pub const INTERVAL: usize = 41;
-pub const REST: usize = 42;
+/// A constant for each column, its number; `SIZES` and their sum `WORDS`: from the rows of docs/LAYOUT.md, by build.rs.
+#[allow(dead_code)] // Some columns are only counted.
+mod columns {
+    use numbers::document::Amount;
+    include!(concat!(env!("OUT_DIR"), "/columns.rs"));
+}
+pub use columns::*;
+
+/// The columns of the capacities, in the order of the pools. They are of one word each, as are all before them.
+pub const CAPACITIES: [usize; 6] = [ACTORS, MAILS, DATAS, LINKS, MONITORS, TIMERS];
 
 pub const FREE: u64 = 0;
 pub const RUNNABLE: u64 = 1;
 pub const RUNS: u64 = 2;
 pub const WAITS: u64 = 3;
 
-/// The words of a column.
-fn size(caps: &Capacities, column: usize) -> usize {
-    let words = match column {
-        0..=LAST_SPARE => 1,
-        MAIL_FREE | DATA_FREE => 4,
-        STATE..=QUEUE => caps[0],
-        MAIL_OWNER..=ARRIVAL => caps[1],
-        SENDER | LENGTH => caps[2],
-        LINK_ONE | LINK_TWO => caps[3],
-        WATCHER..=MONITOR_AGE => caps[4],
-        _ => caps[5],
-    };
-    words as usize
-}
-
 /// Where each column starts; the last start is that of the rest.
 pub fn starts(caps: &Capacities) -> [usize; REST + 1] {
     let mut starts = [0; REST + 1];
     for column in 0..REST {
-        starts[column + 1] = starts[column] + size(caps, column);
+        starts[column + 1] = starts[column] + SIZES[column].at(caps) as usize;
     }
     starts
 }
 
+/// The table's words for capacities in range: all columns but the rest.
+pub fn words_needed(caps: &Capacities) -> u64 {
+    WORDS.at(caps)
+}
+
+/// Says whether a table of so many words is long enough for these capacities.
+pub fn table_suffices(words: usize, caps: &Capacities) -> bool {
+    in_range(caps) && words as u64 >= words_needed(caps)
+}
+
 /// The capacities that the buffers name, where they are in range and the buffers are long enough.
 pub fn capacities(words: &[u64], bytes: &[u8]) -> Option<Capacities> {
-    let caps: Capacities = words.get(..6)?.try_into().ok()?;
-    let fits =
-        in_range(&caps) && words.len() as u64 >= words_needed(&caps) && bytes.len() as u64 >= bytes_needed(&caps);
+    let mut caps = [0; 6];
+    for pool in 0..6 {
+        caps[pool] = *words.get(CAPACITIES[pool])?;
+    }
+    let fits = table_suffices(words.len(), &caps) && bytes.len() as u64 >= bytes_needed(&caps);
     fits.then_some(caps)
 }
 
@@ -143,7 +117,7 @@ pub fn decode(words: &[u64], bytes: &[u8]) -> Option<State> {
     let mut state = State::fresh(&caps);
     state.clock = r.at(CLOCK, 0);
     require(state.clock <= MAX_CLOCK)?;
-    require((FIRST_SPARE..=LAST_SPARE).all(|c| r.at(c, 0) == 0))?;
+    require((0..SIZES[SPARE].fixed as usize).all(|i| r.at(SPARE, i) == 0))?;
     read_actors(&r, &mut state)?;
     read_queue(&r, &mut state)?;
     read_letters(&r, &mut state)?;

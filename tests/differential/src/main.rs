@@ -15,6 +15,7 @@ mod faults;
 mod ffi;
 mod generate;
 mod layout;
+mod lengths;
 mod random;
 mod recorded;
 mod session;
@@ -30,8 +31,6 @@ use std::time::{Duration, Instant};
 
 const SEED: u64 = 1;
 const CALLS: u64 = 400_000;
-/// A run by default ends here, whatever the number of calls.
-const SECONDS: u64 = 35;
 
 struct Options {
     seed: u64,
@@ -50,9 +49,8 @@ fn options() -> Result<Options, String> {
         return Err(USAGE.to_string());
     }
     let number = |i: usize, default: u64| numbers.get(i).copied().unwrap_or(default);
-    // Who asks for a number of calls gets them all, unless a time is given too.
-    let seconds = number(2, if numbers.len() > 1 { u64::MAX / 2 } else { SECONDS });
-    Ok(Options { seed: number(0, SEED), calls: number(1, CALLS), seconds })
+    // All calls are made, unless a time is given too.
+    Ok(Options { seed: number(0, SEED), calls: number(1, CALLS), seconds: number(2, u64::MAX / 2) })
 }
 
 /// Runs sessions until the calls or the time are used up.
@@ -61,6 +59,7 @@ fn run(options: &Options) -> Result<Counts, Difference> {
     let began = Instant::now();
     let mut counts = Counts::default();
     examples::compare_examples()?;
+    lengths::compare_lengths()?;
     recorded::compare_records(&mut random)?;
     while counts.calls < options.calls && began.elapsed() < Duration::from_secs(options.seconds) {
         Session::new(&mut random, &mut counts).run()?;

@@ -5,7 +5,7 @@ use crate::compare::{make, Buffers, Difference};
 use crate::counts::Counts;
 use crate::damage::{self, Damage};
 use crate::generate::{self, Generator, Mood, Seen};
-use crate::layout::{self, AGE, CLOCK, MONITOR_AGE, REST, TIMER_AGE};
+use crate::layout::{self, words_needed, AGE, CLOCK, MONITOR_AGE, TIMER_AGE};
 use crate::random::Random;
 use model::limits::*;
 use model::state::State;
@@ -209,7 +209,6 @@ impl<'a> Session<'a> {
 }
 
 fn fresh_buffers(random: &mut Random, caps: &Capacities) -> Buffers {
-    assert_eq!(layout::starts(caps)[REST] as u64, words_needed(caps), "the formula is the sum of the columns");
     let fill = random.pick(&[0, 0xA5A5_A5A5_A5A5_A5A5, u64::MAX, 1]);
     let words = words_needed(caps) as usize + random.pick(&[0, 1, 7, 40]);
     let bytes = bytes_needed(caps) as usize + random.pick(&[0, 1, 255, 300]);

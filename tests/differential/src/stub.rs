@@ -2,6 +2,7 @@
 //! With it the test compares the model with itself and so tests its own parts.
 //! Only used where no archive of the library is linked (`cfg(self_test)`, and the archive `standin`).
 
+use crate::layout::table_suffices;
 use crate::{encode, faults};
 use model::limits::{bytes_needed, ACTOR_FACTOR, ANY_TAG};
 use model::{records, Advanced, Ended, ExitRead, Made, Model, ReasonWord, Received, Report, Shown, TickRead, Turn};
@@ -60,7 +61,8 @@ unsafe extern "C" fn fg_start(
     let (words, bytes) = (from_raw_parts_mut(t, t_len), from_raw_parts_mut(p, p_len));
     let caps = [actors, mailboxes, data, links, monitors, timers];
     let mut m = Model::unsound();
-    let no = m.start(t_len as u64, p_len as u64, caps);
+    let wanted = if faults::is("start-wants-a-word-more") { 1 } else { 0 };
+    let no = m.start(table_suffices(t_len.saturating_sub(wanted), &caps), p_len as u64, caps);
     if no == 0 {
         bytes[..bytes_needed(&caps) as usize].fill(0);
         store(&m, words, bytes);

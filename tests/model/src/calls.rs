@@ -31,9 +31,9 @@ impl Model {
         Ok((state, me))
     }
 
-    /// Starts over in buffers of so many words and bytes.
-    pub fn start(&mut self, words: u64, bytes: u64, caps: Capacities) -> u64 {
-        if !in_range(&caps) || words < words_needed(&caps) || bytes < bytes_needed(&caps) {
+    /// Starts over in a table that is long enough for the capacities or not, as its layout has it, and so many bytes.
+    pub fn start(&mut self, table_suffices: bool, bytes: u64, caps: Capacities) -> u64 {
+        if !in_range(&caps) || !table_suffices || bytes < bytes_needed(&caps) {
             return MALFORMED;
         }
         self.state = Some(State::fresh(&caps));

@@ -43,9 +43,16 @@ pub fn in_range(caps: &Capacities) -> bool {
     (0..6).all(|i| SMALLEST[i] <= caps[i] && caps[i] <= LARGEST[i])
 }
 
-/// The table's words for capacities in range.
-pub fn words_needed(caps: &Capacities) -> u64 {
-    24 + 10 * caps[0] + 3 * caps[1] + 2 * caps[2] + 2 * caps[3] + 3 * caps[4] + 4 * caps[5]
+/// Capacities to try: the smallest and the largest, each pool alone at its other end, and two between.
+pub fn samples() -> Vec<Capacities> {
+    let mut all = vec![SMALLEST, LARGEST, [4, 16, 16, 4, 4, 4], [5, 5, 6, 3, 2, 2]];
+    for pool in 0..6 {
+        for (mut caps, other) in [(SMALLEST, LARGEST), (LARGEST, SMALLEST)] {
+            caps[pool] = other[pool];
+            all.push(caps);
+        }
+    }
+    all
 }
 
 /// The payload area's bytes for capacities in range.

@@ -4,8 +4,8 @@ use crate::answers::{ExitRead, TickRead, DONE, MALFORMED};
 
 pub const TICK_BYTES: usize = 8;
 pub const EXIT_BYTES: usize = 14;
-const TICK_KIND: u16 = 1;
-const EXIT_KIND: u16 = 2;
+pub const TICK_KIND: u16 = 1;
+pub const EXIT_KIND: u16 = 2;
 /// The two bytes of the length do not count themselves.
 const LENGTH_BYTES: usize = 2;
 

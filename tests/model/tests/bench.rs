@@ -8,7 +8,7 @@ const LARGE: Capacities = LARGEST;
 
 fn started(caps: Capacities) -> Model {
     let mut m = Model::unsound();
-    assert_eq!(m.start(words_needed(&caps), bytes_needed(&caps), caps), DONE);
+    assert_eq!(m.start(true, bytes_needed(&caps), caps), DONE);
     m
 }
 
@@ -231,9 +231,9 @@ fn notices_of_links_then_of_monitors() {
 fn refusals_in_their_order() {
     let mut m = Model::unsound();
     assert_eq!(m.spawn(9).no, UNSOUND);
-    assert_eq!(m.start(10_000, 65_536, [0, 1, 1, 0, 0, 0]), MALFORMED);
-    assert_eq!(m.start(10, 65_536, [1, 1, 1, 0, 0, 0]), MALFORMED);
-    assert_eq!(m.start(10_000, 255, [1, 1, 1, 0, 0, 0]), MALFORMED);
+    assert_eq!(m.start(true, 65_536, [0, 1, 1, 0, 0, 0]), MALFORMED);
+    assert_eq!(m.start(false, 65_536, [1, 1, 1, 0, 0, 0]), MALFORMED);
+    assert_eq!(m.start(true, 255, [1, 1, 1, 0, 0, 0]), MALFORMED);
     assert_eq!(m.report().no, UNSOUND);
     let mut m = started([1, 1, 1, 0, 0, 0]);
     assert_eq!(m.notify(1, ANY_TAG, &[]), NOT_NOW);
