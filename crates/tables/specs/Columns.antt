@@ -1,134 +1,134 @@
--- The columns of the tables by name and number: each is the one after the column above it, so that one more moves those below it. docs/LAYOUT.md says what each holds.
+-- The columns of the tables by name and number. docs/LAYOUT.md says what each holds.
 -- A slot or an entry that a word names is stored one up, so that 0 names none and a free entry is all zero;
 -- the queue and the arrivals, which have counts, hold the numbers themselves. Assumes nothing.
-use Prim.Native.Nat.{ℕ, _+_}
+use Prim.Native.Nat.{ℕ}
 
 -- ---- the head, one word each: the six capacities, the clock, the running actor's slot, the lengths of the queue and of the arrivals
 abbrev pub ACTORS : ℕ
 ACTORS = 0
 
 abbrev pub MAILS : ℕ
-MAILS = ACTORS + 1
+MAILS = 1
 
 abbrev pub DATAS : ℕ
-DATAS = MAILS + 1
+DATAS = 2
 
 abbrev pub LINKS : ℕ
-LINKS = DATAS + 1
+LINKS = 3
 
 abbrev pub MONITORS : ℕ
-MONITORS = LINKS + 1
+MONITORS = 4
 
 abbrev pub TIMERS : ℕ
-TIMERS = MONITORS + 1
+TIMERS = 5
 
 abbrev pub CLOCK : ℕ
-CLOCK = TIMERS + 1
+CLOCK = 6
 
 abbrev pub RUNNING : ℕ
-RUNNING = CLOCK + 1
+RUNNING = 7
 
 abbrev pub QUEUED : ℕ
-QUEUED = RUNNING + 1
+QUEUED = 8
 
 abbrev pub ARRIVED : ℕ
-ARRIVED = QUEUED + 1
+ARRIVED = 9
 
 -- ---- the spare words of the head: one column
 abbrev pub SPARE : ℕ
-SPARE = ARRIVED + 1
+SPARE = 10
 
 -- ---- the free bits, four words each
 abbrev pub MAIL-FREE : ℕ
-MAIL-FREE = SPARE + 1
+MAIL-FREE = 11
 
 abbrev pub DATA-FREE : ℕ
-DATA-FREE = MAIL-FREE + 1
+DATA-FREE = 12
 
 -- ---- a word for each actor slot
 abbrev pub STATE : ℕ
-STATE = DATA-FREE + 1
+STATE = 13
 
 abbrev pub PRIORITY : ℕ
-PRIORITY = STATE + 1
+PRIORITY = 14
 
 abbrev pub REASON : ℕ
-REASON = PRIORITY + 1
+REASON = 15
 
 abbrev pub AGE : ℕ
-AGE = REASON + 1
+AGE = 16
 
 abbrev pub HAND : ℕ
-HAND = AGE + 1
+HAND = 17
 
 abbrev pub WANT-SENDER : ℕ
-WANT-SENDER = HAND + 1
+WANT-SENDER = 18
 
 abbrev pub WANT-CLASS : ℕ
-WANT-CLASS = WANT-SENDER + 1
+WANT-CLASS = 19
 
 abbrev pub WANT-TAG : ℕ
-WANT-TAG = WANT-CLASS + 1
+WANT-TAG = 20
 
 abbrev pub DEADLINE : ℕ
-DEADLINE = WANT-TAG + 1
+DEADLINE = 21
 
 abbrev pub QUEUE : ℕ
-QUEUE = DEADLINE + 1
+QUEUE = 22
 
 -- ---- a word for each mailbox entry
 abbrev pub MAIL-OWNER : ℕ
-MAIL-OWNER = QUEUE + 1
+MAIL-OWNER = 23
 
 abbrev pub MAIL-DATA : ℕ
-MAIL-DATA = MAIL-OWNER + 1
+MAIL-DATA = 24
 
 abbrev pub ARRIVAL : ℕ
-ARRIVAL = MAIL-DATA + 1
+ARRIVAL = 25
 
 -- ---- a word for each data entry
 abbrev pub SENDER : ℕ
-SENDER = ARRIVAL + 1
+SENDER = 26
 
 abbrev pub LENGTH : ℕ
-LENGTH = SENDER + 1
+LENGTH = 27
 
 -- ---- a word for each link
 abbrev pub LINK-ONE : ℕ
-LINK-ONE = LENGTH + 1
+LINK-ONE = 28
 
 abbrev pub LINK-TWO : ℕ
-LINK-TWO = LINK-ONE + 1
+LINK-TWO = 29
 
 -- ---- a word for each monitor
 abbrev pub WATCHER : ℕ
-WATCHER = LINK-TWO + 1
+WATCHER = 30
 
 abbrev pub WATCHED : ℕ
-WATCHED = WATCHER + 1
+WATCHED = 31
 
 abbrev pub MONITOR-AGE : ℕ
-MONITOR-AGE = WATCHED + 1
+MONITOR-AGE = 32
 
 -- ---- a word for each timer
 abbrev pub TIMER-OWNER : ℕ
-TIMER-OWNER = MONITOR-AGE + 1
+TIMER-OWNER = 33
 
 abbrev pub TIMER-AGE : ℕ
-TIMER-AGE = TIMER-OWNER + 1
+TIMER-AGE = 34
 
 abbrev pub DUE : ℕ
-DUE = TIMER-AGE + 1
+DUE = 35
 
 abbrev pub INTERVAL : ℕ
-INTERVAL = DUE + 1
+INTERVAL = 36
 
 -- ---- the words past the needed ones; the payload area, a byte each; the bytes past it
 abbrev pub REST : ℕ
-REST = INTERVAL + 1
+REST = 37
 
 abbrev pub PAYLOAD : ℕ
-PAYLOAD = REST + 1
+PAYLOAD = 38
 
 abbrev pub PAST : ℕ
-PAST = PAYLOAD + 1
+PAST = 39
