@@ -11,7 +11,7 @@ use lib.Dec.{eqb, ltb}
 use borrow.Author.Count.{below-more}
 use borrow.Author.Tests.{eqb-true, ltb-true, lt-ltb, le-ltb}
 use Rattle.pools.specs.Pool.{lowest}
-use Rattle.pools.proofs.BoolLaws.{split, and-left, and-right}
+use Rattle.pools.proofs.BoolLaws.{split, and-right}
 use Rattle.pools.proofs.PoolLaws.{lowest-found, lowest-none}
 use Rattle.records.specs.Bytes.{field, ofLe}
 use Rattle.tables.specs.declared.Caps.{Caps}
@@ -102,9 +102,6 @@ write-out s d i m h = fun-ext (λ c. split (eqb c PAYLOAD) (λ q. rw (q, sets-ou
 
 -- ---- room for a message: there is a mailbox entry, and a data entry
 module _ (k : Caps) (s : State) (h : hasRoom k s ≡ true) where
-  pub room-mail : mailFor k s < k .mails
-  room-mail = ltb-true (mailFor k s) (k .mails) (and-left (ltb (mailFor k s) (k .mails)) (ltb (dataFor k s) (k .datas)) h)
-
   pub room-data : dataFor k s < k .datas
   room-data = ltb-true (dataFor k s) (k .datas) (and-right (ltb (mailFor k s) (k .mails)) (ltb (dataFor k s) (k .datas)) h)
 

@@ -39,6 +39,7 @@ use tables::limits::ANY_CLASS;
 use tables::limits::ANY_SENDER;
 use tables::limits::ANY_TAG;
 use tables::limits::ENTRY_BYTES;
+use tables::limits::HEADER_BYTES;
 use tables::lists::pull;
 use tables::lists::push;
 use tables::payload;
@@ -82,7 +83,7 @@ pub fn fill(t: &mut [u64], p: &mut [u8], k: Caps, d: u64, sender: u64, header: u
 {
     mark(t, p, k, d, sender, payload.len() as u64);
     put_header(t, p, k, d, header);
-    payload::write(t, p, k, d, 4, payload);
+    payload::write(t, p, k, d, HEADER_BYTES, payload);
 }
 
 // Data entry d is freed, and its words are 0.

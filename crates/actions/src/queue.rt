@@ -5,7 +5,7 @@ ghost use Prim.Native.Nat.{suc, _<_};
 ghost use lib.Dec.{eqb};
 ghost use Rattle.records.specs.Header.{classOf, tagOf};
 ghost use Rattle.tables.specs.Columns.{ARRIVAL, MAIL-OWNER, PRIORITY, QUEUE, SENDER};
-ghost use Rattle.tables.specs.Limits.{SAFE};
+ghost use Rattle.tables.specs.Limits.{LEVELS, SAFE};
 ghost use Rattle.tables.specs.State.{at, view, Room};
 ghost use Rattle.rules.specs.Terms.{fits, header};
 ghost use Rattle.rules.specs.Calls.{levelHead, firstHead, matchAt, firstMatch, dataOf, firstOf};
@@ -22,6 +22,7 @@ use tables::columns::PRIORITY;
 use tables::columns::QUEUE;
 use tables::columns::QUEUED;
 use tables::columns::SENDER;
+use tables::limits::LEVELS;
 use tables::words::get;
 
 // Is the i-th of the queue of this level?
@@ -49,15 +50,15 @@ pub fn level_head(t: &[u64], p: &[u8], k: Caps, level: u64) -> u64
     n
 }
 
-// The place of the head of the first level, from 0 to 3, that is not empty; past the queue where all are.
+// The place of the head of the first level that is not empty; past the queue where all are.
 pub fn first_head(t: &[u64], p: &[u8], k: Caps) -> u64
     requires { ⌜ Room k (now t) (now p) ⌝ }
-    ensures { λ r. ⌜ r ≡ firstHead (view k (now (t .entry)) (now (p .entry))) 4 ⌝ }
+    ensures { λ r. ⌜ r ≡ firstHead (view k (now (t .entry)) (now (p .entry))) LEVELS ⌝ }
 {
     let n = get(t, p, k, QUEUED, 0);
     let mut first = n;
     let mut level: u64 = 0;
-    while level < 4 {
+    while level < LEVELS {
         if n <= first {
             first = level_head(t, p, k, level);
         }

@@ -8,7 +8,7 @@ use lib.ListN.{take, drop, List·getD-eq-default}
 use lib.Seq.{take-take}
 use lib.Dec.{eqb, ltb}
 use borrow.Author.Tests.{eq-eqb, ne-eqb, lt-ltb, le-ltb, eqb-true, eqb-false, ltb-true, ltb-false, not-true, not-false}
-use Rattle.pools.proofs.BoolLaws.{split, true-false}
+use Rattle.pools.proofs.BoolLaws.{split}
 use Rattle.tables.specs.declared.Caps.{Caps}
 use Rattle.pools.specs.Bits.{free}
 use Rattle.tables.specs.Columns.{AGE, ARRIVED, CLOCK, DATA-FREE, DEADLINE, DUE, HAND, LENGTH, MAIL-DATA, MAIL-FREE, MONITOR-AGE, PAYLOAD, REST, TIMER-AGE, TIMER-OWNER}
@@ -43,15 +43,6 @@ module _ {r x : ℕ} (e : r ≡ x) where
 
   pub unequal : {q : ℕ} → (q ≡ r → ⊥) → eqb q x ≡ false
   unequal {q} h = ne-eqb q x (λ z. h (z ∙ sym e))
-
--- two tests at once
-pub or-left : (a b : Bool) → a || b ≡ false → a ≡ false
-or-left true b h = h
-or-left false b h = refl
-
-pub or-right : (a b : Bool) → a || b ≡ false → b ≡ false
-or-right true b h = true-false true refl h
-or-right false b h = h
 
 module _ {b x : Bool} (e : b ≡ x) where
   pub is-not : not b ≡ true → x ≡ false

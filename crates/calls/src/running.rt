@@ -40,6 +40,7 @@ use tables::free::count_bits;
 use tables::free::count_slots;
 use tables::free::count_unused;
 use tables::limits::ACTOR_FACTOR;
+use tables::limits::LAST_LEVEL;
 use tables::limits::OLDEST;
 use tables::lists::pull;
 use tables::words::get;
@@ -66,7 +67,7 @@ pub fn spawn_in(t: &mut [u64], p: &[u8], k: Caps, priority: u64) -> Made
     requires { ⌜ Ready k (now t) (now p) ⌝ }
     ensures { λ r. ⌜ Gives (ruled (spawnEntry priority)) k (now (t .entry)) (now (p .entry)) r (now (t .exit)) (now (p .entry)) ⌝ }
 {
-    if 3 < priority {
+    if LAST_LEVEL < priority {
         return Made { no: 1, id: 0 };
     }
     let a = slot_for(t, p, k);

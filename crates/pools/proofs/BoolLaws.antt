@@ -1,6 +1,6 @@
 -- Tests: what is so whichever way one turns out, and a test read as a 0 or a 1. Assumes nothing.
 use mathlib.Core.Path.{_≡_, refl, sym}
-use mathlib.Core.Bool.{Bool, true, false, not, _&&_}
+use mathlib.Core.Bool.{Bool, true, false, not, _&&_, _||_}
 use Prim.Native.Nat.{ℕ, _+_, _≤_, _<_}
 use native.Mathlib.Omega.{arith}
 use mir.Val.{boolByte}
@@ -29,6 +29,11 @@ and-right false b e = true-false false e refl
 -- where each holds both do
 pub and-true : (a b : Bool) → a ≡ true → b ≡ true → a && b ≡ true
 and-true a b p q = rw (p, q)
+
+-- neither of two
+pub neither : (a b : Bool) → a || b ≡ false → (a ≡ false) × (b ≡ false)
+neither true b e = true-false true refl e
+neither false b e = (refl, e)
 
 -- a flag is 0 or 1
 pub flag≤ : (b : Bool) → boolByte b ≤ 1

@@ -11,7 +11,7 @@ use Rattle.tables.specs.declared.Caps.{Caps}
 use Rattle.tables.specs.Columns.{ARRIVED, CLOCK, DEADLINE, DUE, HAND, PRIORITY, QUEUE, QUEUED, REASON, RUNNING, STATE, TIMER-OWNER, WATCHED, WATCHER}
 use Rattle.tables.specs.Limits.{ACTOR-FACTOR, LEVELS}
 use Rattle.tables.specs.State.{State, at, head}
-use Rattle.rules.specs.Terms.{runner}
+use Rattle.rules.specs.Terms.{TIMEOUT, runner}
 use Rattle.rules.specs.Actions.{earliest, hasRoom, letGo}
 use Rattle.rules.specs.Calls.{Fired, Told, advanceEntry, armEntry, cancelEntry, cutLink, cutLinks, cutMonitor, cutMonitors, demonitorEntry, dropMonitors, dropTimers, exitEntry, farewell, fire, fireAll, firstHead, firstMatch, handOver, linkEntry, linkOf, monitorEntry, nextEntry, notAtAll, notifyEntry, rearm, receiveBare, receiveEntry, rouse, tell, unlinkEntry, yieldEntry}
 use Rattle.rules.proofs.Frame.{Beside, beside-of, beside-over, beside-poke, beside-still, beside-within, wrote-none, wrote-poke}
@@ -101,7 +101,7 @@ unfolding rouse
 beside-rouse k zero s = beside-still POSTED s
 beside-rouse k (suc m) s =
     split (eqb (earliest s DEADLINE DEADLINE (head s CLOCK) (k .actors)) 0) (λ q. rw q (beside-still POSTED s))
-    (λ q. rw q (beside-over POSTED (beside-of (wrote-ready (wrote-unwait (wrote-none s) _) _ 2)) (beside-rouse k m _) refl))
+    (λ q. rw q (beside-over POSTED (beside-of (wrote-ready (wrote-unwait (wrote-none s) _) _ TIMEOUT)) (beside-rouse k m _) refl))
 
 -- advance
 pub beside-advance : (micros : ℕ) (k : Caps) (s : State) → Beside ADVANCED s (advanceEntry micros .work k s .state)

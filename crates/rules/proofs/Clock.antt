@@ -21,7 +21,7 @@ use Rattle.tables.specs.State.{State, at, head, with-col, poke}
 use Rattle.tables.specs.Action.{push, takeBit, write}
 use Rattle.tables.proofs.ViewLaws.{Sized}
 use Rattle.tables.proofs.ActionLaws.{with-other}
-use Rattle.rules.specs.Terms.{WAITS}
+use Rattle.rules.specs.Terms.{MESSAGE, TIMEOUT, WAITS}
 use Rattle.rules.specs.Sound.{pairRule}
 use Rattle.rules.specs.Actions.{dataFor, due, earliest, enlist, fill, hears, mailFor, post, ready, stir, unwait, wake}
 use Rattle.rules.specs.Agrees.{Agrees}
@@ -104,7 +104,7 @@ clock-stir : (s : State) (c a sender h : ℕ) → stir (atClock s c) a sender h 
 unfolding stir
 clock-stir s c a sender h =
     rw (clock-read s c STATE refl, clock-read s c WANT-SENDER refl, clock-read s c WANT-CLASS refl, clock-read s c WANT-TAG refl)
-    (split (hears s a sender h) (λ q. rw q (clock-wake s c a 1)) (λ q. rw q))
+    (split (hears s a sender h) (λ q. rw q (clock-wake s c a MESSAGE)) (λ q. rw q))
 
 -- a message to an actor
 pub clock-post : (k : Caps) (s : State) (c a sender h : ℕ) (payload : List ℕ) → post k (atClock s c) a sender h payload ≡ atClock (post k s a sender h payload) c
@@ -113,7 +113,7 @@ clock-post k s c a sender h payload =
     rw (clock-read s c DATA-FREE refl, clock-read s c MAIL-FREE refl, clock-fill s c (dataFor k s) sender h payload, clock-enlist (fill s (dataFor k s) sender h payload) c (mailFor k s) a (dataFor k s))
     (clock-stir (enlist (fill s (dataFor k s) sender h payload) (mailFor k s) a (dataFor k s)) c a sender h)
 
--- and the clock stays
+-- ---- the clock stays
 -- where an actor wakes
 pub wake-clock : (s : State) (a reason : ℕ) → wake s a reason CLOCK ≡ s CLOCK
 wake-clock s a reason = wrote-ready (wrote-unwait (wrote-none s) a) a reason .cols CLOCK refl
@@ -181,7 +181,7 @@ module _ (k : Caps) (c : ℕ) (s : State) (h : Late k c s) where
   post-late a sender m payload g = late-then (post k s a sender m payload) (rw (clock-post k s c a sender m payload) at g) (post-clock k s a sender m payload)
 
   -- a waiting actor becomes runnable
-  pub wake-late : (a reason : ℕ) → a < k .actors → at s STATE a ≡ WAITS → reason ≤ 2 → Late k c (wake s a reason)
+  pub wake-late : (a reason : ℕ) → a < k .actors → at s STATE a ≡ WAITS → reason ≤ TIMEOUT → Late k c (wake s a reason)
   wake-late a reason l u r =
       late-then (wake s a reason) (rw (clock-wake s c a reason) at (wake-keeps k (atClock s c) a reason (h .good) l (rw (clock-read s c STATE refl) u) r)) (wake-clock s a reason)
 
@@ -233,7 +233,7 @@ module _ (k : Caps) (s : State) where
   rouse-stop m q = rw q
 
   -- one step where there is one
-  pub rouse-more : (m : ℕ) → eqb (nextOverdue k s) 0 ≡ false → rouse k (suc m) s ≡ rouse k m (wake s (nextOverdue k s - 1) 2)
+  pub rouse-more : (m : ℕ) → eqb (nextOverdue k s) 0 ≡ false → rouse k (suc m) s ≡ rouse k m (wake s (nextOverdue k s - 1) TIMEOUT)
   unfolding rouse
   rouse-more m q = rw q
 
@@ -255,21 +255,21 @@ module _ (k : Caps) (s : State) where
       (omega (arith, overdue-least .within), p, eqb-false (at s DEADLINE b) 0 (not-true (eqb (at s DEADLINE b) 0) (and-left (not (eqb (at s DEADLINE b) 0)) (leb (at s DEADLINE b) (head s CLOCK)) p)))
 
 -- an actor that became runnable is overdue no more, and the others are as they were
-overdue-wake : (s : State) (b : ℕ) → b < length (s DEADLINE) → (overdue (wake s b 2) b ≡ false) × ((j : ℕ) → (j ≡ b → ⊥) → overdue (wake s b 2) j ≡ overdue s j)
+overdue-wake : (s : State) (b : ℕ) → b < length (s DEADLINE) → (overdue (wake s b TIMEOUT) b ≡ false) × ((j : ℕ) → (j ≡ b → ⊥) → overdue (wake s b TIMEOUT) j ≡ overdue s j)
 unfolding ready unwait push poke with-col
 overdue-wake s b l = (rw (getD-set-same (s DEADLINE) b 0 0 l), λ j n. rw (getD-set-other (s DEADLINE) b j 0 0 n))
 
 module _ (k : Caps) (c : ℕ) where
   -- one fewer is overdue
-  overdue-fewer : (s : State) (b : ℕ) → Late k c s → b < k .actors → overdue s b ≡ true → count (overdue (wake s b 2)) (k .actors) + 1 ≡ count (overdue s) (k .actors)
+  overdue-fewer : (s : State) (b : ℕ) → Late k c s → b < k .actors → overdue s b ≡ true → count (overdue (wake s b TIMEOUT)) (k .actors) + 1 ≡ count (overdue s) (k .actors)
   overdue-fewer s b h l q =
       let w = overdue-wake s b (omega (arith, late-sized k c s h .words DEADLINE (lit< tt))) in
-      let e = count-change (overdue s) (overdue (wake s b 2)) b (k .actors) l (w .1) in
+      let e = count-change (overdue s) (overdue (wake s b TIMEOUT)) b (k .actors) l (w .1) in
       omega (arith, rw (q, w .0) at e)
 
   -- the one that wakes, and the state after it
-  pub rouse-step : (s : State) → Late k c s → eqb (nextOverdue k s) 0 ≡ false → Late k c (wake s (nextOverdue k s - 1) 2)
-  rouse-step s h q = let o = overdue-at k s q in wake-late k c s h (nextOverdue k s - 1) 2 (o .0) (late-waits k c s h (nextOverdue k s - 1) (o .0) (o .2)) (omega arith)
+  pub rouse-step : (s : State) → Late k c s → eqb (nextOverdue k s) 0 ≡ false → Late k c (wake s (nextOverdue k s - 1) TIMEOUT)
+  rouse-step s h q = let o = overdue-at k s q in wake-late k c s h (nextOverdue k s - 1) TIMEOUT (o .0) (late-waits k c s h (nextOverdue k s - 1) (o .0) (o .2)) (omega arith)
 
   -- m steps are enough where no more than m are overdue
   rouse-good : (m : ℕ) (s : State) → Late k c s → count (overdue s) (k .actors) ≤ m → Good k (rouse k m s)
@@ -280,7 +280,7 @@ module _ (k : Caps) (c : ℕ) where
       (λ q. rw (rouse-stop k s m q) (late-good k c s h (overdue-least k s .none (eqb-true (nextOverdue k s) 0 q))))
       (λ q. let o = overdue-at k s q in
       rw (rouse-more k s m q)
-      (rouse-good m (wake s (nextOverdue k s - 1) 2) (rouse-step s h q) (omega (arith, overdue-fewer s (nextOverdue k s - 1) h (o .0) (o .1)))))
+      (rouse-good m (wake s (nextOverdue k s - 1) TIMEOUT) (rouse-step s h q) (omega (arith, overdue-fewer s (nextOverdue k s - 1) h (o .0) (o .1)))))
 
   -- THE LAW: after it a state whose clock was raised is sound
   pub rouse-keeps : (s : State) → Late k c s → Good k (rouse k (k .actors) s)
@@ -315,10 +315,10 @@ module _ (k : Caps) (c : ℕ) (l : Ledger) (s : State) (h : Late k c s) (a : Agr
       late-back (sent ms (clockAt l c)) (post k s b sender m payload) (post-clock k s b sender m payload) (rw (clock-post k s c b sender m payload) at x)
 
   -- a waiting actor becomes runnable
-  pub wake-late-agrees : (b reason : ℕ) → b < k .actors → at s STATE b ≡ WAITS → reason ≤ 2 → Agrees k l (wake s b reason)
-  wake-late-agrees b reason n u r =
+  pub wake-late-agrees : (b reason : ℕ) → at s STATE b ≡ WAITS → Agrees k l (wake s b reason)
+  wake-late-agrees b reason u =
       late-back (clockAt l c) (wake s b reason) (wake-clock s b reason)
-      (rw (clock-wake s c b reason) at (wake-agrees k (atClock s c) (clockAt l c) b reason (h .good) late-agrees n (rw (clock-read s c STATE refl) u) r))
+      (rw (clock-wake s c b reason) at (wake-agrees k (atClock s c) (clockAt l c) b reason late-agrees (rw (clock-read s c STATE refl) u)))
 
 -- the overdue wake, and the reckoning has nothing to do
 pub rouse-agrees : (m : ℕ) (k : Caps) (c : ℕ) (l : Ledger) (s : State) → Late k c s → Agrees k l s → Agrees k l (rouse k m s)
@@ -328,8 +328,8 @@ rouse-agrees (suc m) k c l s h a =
     (λ q. rw (rouse-stop k s m q) a)
     (λ q. let o = overdue-at k s q in
     rw (rouse-more k s m q)
-    (rouse-agrees m k c l (wake s (nextOverdue k s - 1) 2) (rouse-step k c s h q)
-    (wake-late-agrees k c l s h a (nextOverdue k s - 1) 2 (o .0) (late-waits k c s h (nextOverdue k s - 1) (o .0) (o .2)) (omega arith))))
+    (rouse-agrees m k c l (wake s (nextOverdue k s - 1) TIMEOUT) (rouse-step k c s h q)
+    (wake-late-agrees k c l s h a (nextOverdue k s - 1) TIMEOUT (late-waits k c s h (nextOverdue k s - 1) (o .0) (o .2)))))
 
 -- "Advance adds": the clock of both
 pub advance-clock-agrees : (k : Caps) (l : Ledger) (s : State) (micros : ℕ) → Good k s → Agrees k l s →

@@ -6,29 +6,28 @@ use mathlib.Core.Path.{_≡_, refl, sym, ap, ap₂, subst, _∙_}
 use mathlib.Core.Logic.{_⊎_, inl, inr, ⊎-elim}
 use mathlib.Core.Bool.{Bool, true, false, not, _&&_, _||_, and-false}
 use mathlib.Core.List.{List, [], _∷_, _++_, map}
-use lib.ListN.{length, take, length-append, length-map}
+use lib.ListN.{length, take, length-append}
 use lib.Seq.{length-take-le}
 use lib.Dec.{eqb}
-use borrow.Author.Tests.{eqb-true, eqb-false, ne-eqb, le-ltb}
+use borrow.Author.Tests.{eqb-true, eqb-false, ne-eqb, le-ltb, not-false}
 use Rattle.ledger.specs.Call.Call.{op}
 use Rattle.ledger.specs.Call.Op.{exit}
 use Rattle.ledger.specs.Ledger.{Ledger, Link, Message, Monitor}
 use Rattle.ledger.specs.Lists.{those, some, bySlot}
 use Rattle.ledger.specs.Reckon.{cleared, departed, endLinks, endMonitors, endTimers, entered, gone, linked, notice, notices}
 use Rattle.ledger.specs.Room.{datasLeft, known, mailsLeft}
-use Rattle.pools.specs.Bits.{free}
 use Rattle.pools.proofs.BoolLaws.{split, true-false}
 use Rattle.tables.specs.declared.Caps.{Caps}
-use Rattle.tables.specs.Columns.{DATA-FREE, HAND, MAIL-DATA, MAIL-FREE, STATE, WATCHED, WATCHER}
+use Rattle.tables.specs.Columns.{STATE, WATCHED, WATCHER}
 use Rattle.tables.specs.Limits.{ACTOR-FACTOR, LAST-REASON, MONITOR-FACTOR}
 use Rattle.tables.specs.State.{State, at}
 use Rattle.rules.specs.Terms.{actorId, alive, runner, runnerId}
-use Rattle.rules.specs.Agrees.{Agrees, arrivals, boxAt, handAt, monitorAt}
+use Rattle.rules.specs.Agrees.{Agrees, monitorAt}
 use Rattle.rules.specs.Actions.{hasRoom}
 use Rattle.rules.specs.Calls.{Told, exitEntry, farewell, ruled}
 use Rattle.rules.specs.Run.{sayEnded}
 use Rattle.rules.proofs.Good.{Good}
-use Rattle.rules.proofs.LedgerLaws.{bits-left, datas-left, mails-left, room-same, running-is, runner-alive, some-map, some-no}
+use Rattle.rules.proofs.LedgerLaws.{running-is, runner-alive, some-map, some-no, boxes-count, datas-count, message-room}
 use Rattle.rules.proofs.TiesAgree.{eye-used, linked-same, up-id}
 use Rattle.rules.proofs.NoticeLaws.{those-none-left}
 use Rattle.rules.proofs.ExitLaws.{link-found}
@@ -86,9 +85,8 @@ pub record Nothing (id : ℕ) (l : Ledger) : Type 0 where
   -- it is at no end of a link or a monitor
   pub links : some (λ p. eqb (p .one) id || eqb (p .two) id) (l .ties .links) ≡ false
   pub monitors : some (λ m. eqb (m .target) id || eqb (m .watcher) id) (l .ties .monitors) ≡ false
-  -- it is no live actor, and nobody runs
+  -- it is no live actor
   pub live : known l id ≡ false
-  pub idle : l .people .running ≡ 0
 
 -- no notice is for the actor that ends, where it is neither linked with itself nor watches itself
 notices-else : (me reason : ℕ) (l : Ledger) → linked l me me ≡ false → some (λ m. eqb (m .target) me && eqb (m .watcher) me) (l .ties .monitors) ≡ false → some (λ m. eqb (m .to) me) (notices l me reason) ≡ false
@@ -116,8 +114,12 @@ departed-nothing me reason n l h w = record {
   links = those-none-left (λ p. eqb (p .one) me || eqb (p .two) me) (l .ties .links);
   monitors = those-none-left (λ m. eqb (m .target) me || eqb (m .watcher) me) (l .ties .monitors);
   live = those-none-left (λ a. eqb (a .id) me) (l .people .live);
-  idle = refl;
 }
+
+-- and nobody runs
+departed-idle : (me reason n : ℕ) (l : Ledger) → departed me reason n l .people .running ≡ 0
+unfolding departed gone endTimers endMonitors endLinks cleared
+departed-idle me reason n l = refl
 
 -- ---- in a sound runtime nobody is linked with itself, and nobody watches itself
 module _ (k : Caps) (s : State) (l : Ledger) (g : Good k s) (r : Agrees k l s) (a : ℕ) (there : alive (s STATE) a ≡ true) where
@@ -139,9 +141,10 @@ module _ (k : Caps) (s : State) (l : Ledger) (g : Good k s) (r : Agrees k l s) (
       (λ p. rw (p, ne-eqb (at s WATCHER e) (suc a) (λ z. h .1 .1 (z ∙ sym (eqb-true (at s WATCHED e) (suc a) p)))))
       (λ p. rw p))))
 
--- THE THEOREM: after an exit the reckoning has nothing of the actor that ended
+-- THE THEOREM: after an exit the reckoning has nothing of the actor that ended, and nobody runs
 pub exit-nothing : (reason : ℕ) (k : Caps) (s : State) (l : Ledger) → Good k s → Agrees k l s → eqb (runner s) 0 ≡ false → reason ≤ LAST-REASON →
-    Nothing (l .people .running) (entered (record { call = op (exit reason); answer = sayEnded (ruled (exitEntry reason) k s .ans) }) l)
+    let l′ = entered (record { call = op (exit reason); answer = sayEnded (ruled (exitEntry reason) k s .ans) }) l in
+    Nothing (l .people .running) l′ × (l′ .people .running ≡ 0)
 unfolding ruled entered
 exit-nothing reason k s l g r q h =
     let there = runner-alive k s g q in
@@ -150,33 +153,16 @@ exit-nothing reason k s l g r q h =
     rw (q, le-ltb LAST-REASON reason h)
     (departed-nothing (l .people .running) reason _ l
     (subst (λ (i : ℕ). linked l i i ≡ false) (sym e) (unlinked-self k s l g r a there))
-    (subst (λ (i : ℕ). some (λ m. eqb (m .target) i && eqb (m .watcher) i) (l .ties .monitors) ≡ false) (sym e) (unwatched-self k s l g r a there)))
+    (subst (λ (i : ℕ). some (λ m. eqb (m .target) i && eqb (m .watcher) i) (l .ties .monitors) ≡ false) (sym e) (unwatched-self k s l g r a there)),
+    departed-idle (l .people .running) reason _ l)
 
 -- ---- how many notices are sent
 module _ (k : Caps) (s : State) (l : Ledger) (g : Good k s) (r : Agrees k l s) where
-  -- the messages are no more than the pools hold
-  boxes-fit : length (l .mail .boxes) ≤ l .sizes .mails
-  boxes-fit = rw (r .sizes, r .mail .boxes, length-map (arrivals s) (boxAt s)) (omega (arith, bits-left (k .mails) (free (s MAIL-FREE)) (arrivals s) (r .mail .allBoxes)))
-
-  -- with those in hands, than the data entries
-  datas-fit : length (l .mail .boxes) + length (l .mail .hands) ≤ l .sizes .datas
-  datas-fit =
-      rw (r .sizes, r .mail .boxes, r .mail .hands, length-map (arrivals s) (boxAt s), length-map (r .mail .palms) (handAt s))
-      (omega (
-        arith,
-        bits-left (k .datas) (free (s DATA-FREE)) (map (λ e. at s MAIL-DATA e - 1) (arrivals s) ++ map (λ a. at s HAND a - 1) (r .mail .palms)) (r .mail .allDatas),
-        length-append (map (λ e. at s MAIL-DATA e - 1) (arrivals s)) (map (λ a. at s HAND a - 1) (r .mail .palms)),
-        length-map (arrivals s) (λ e. at s MAIL-DATA e - 1),
-        length-map (r .mail .palms) (λ a. at s HAND a - 1),
-      ))
-
   -- where there is no room one of the pools is full
   none-left : hasRoom k s ≡ false → (mailsLeft l ≡ 0) ⊎ (datasLeft l ≡ 0)
   none-left q =
-      let m = room-same (free (s MAIL-FREE)) (k .mails) (mailsLeft l) (mails-left k s g l r) in
-      let d = room-same (free (s DATA-FREE)) (k .datas) (datasLeft l) (datas-left k s g l r) in
-      split (eqb (mailsLeft l) 0) (λ y. inl (eqb-true (mailsLeft l) 0 y))
-      (λ y. split (eqb (datasLeft l) 0) (λ z. inr (eqb-true (datasLeft l) 0 z)) (λ z. true-false true refl (rw (m, y, d, z) at q)))
+      let e = not-false (eqb (mailsLeft l) 0 || eqb (datasLeft l) 0) (sym (message-room k s g l r) ∙ q) in
+      split (eqb (mailsLeft l) 0) (λ y. inl (eqb-true (mailsLeft l) 0 y)) (λ y. inr (eqb-true (datasLeft l) 0 (rw y at e)))
 
 -- as many as there are, and as both message pools have room for
 most : (k : Caps) (l : Ledger) (ns : List Message) (p : Link → Bool) (q : Monitor → Bool) (t : Told) → Good k (t .state) → Along k l ns p q t → t .sent ≡ min (length ns) (min (mailsLeft l) (datasLeft l))
@@ -184,8 +170,8 @@ most k l ns p q t g r =
     let c = left l (take (t .sent) ns) p q (r .worn) in
     let n : length (take (t .sent) ns) ≡ t .sent = length-take-le (t .sent) ns (omega (arith, r .count)) in
     let b : length (l .mail .boxes ++ take (t .sent) ns) ≡ length (l .mail .boxes) + t .sent = length-append (l .mail .boxes) (take (t .sent) ns) ∙ ap (λ (x : ℕ). length (l .mail .boxes) + x) n in
-    let x = boxes-fit k (t .state) c g (r .agrees) in
-    let y = datas-fit k (t .state) c g (r .agrees) in
+    let x = boxes-count k (t .state) g c (r .agrees) in
+    let y = datas-count k (t .state) g c (r .agrees) in
     elim (ℕ-discrete (t .lost) 0) [
       | yes z ↦ omega (arith, r .count, x, y, b)
       | no z ↦ ⊎-elim (λ f. omega (arith, r .count, x, y, b, f)) (λ f. omega (arith, r .count, x, y, b, f)) (none-left k (t .state) c g (r .agrees) (r .full z))

@@ -10,23 +10,21 @@ use native.Mathlib.Decide.{decLt}
 use lib.ListN.{getD, set, List·getD-eq-default}
 use lib.Dec.{eqb, ltb, lit<}
 use borrow.Author.Tests.{eqb-true, eqb-false, eq-eqb, ne-eqb, lt-ltb, le-ltb}
-use Rattle.pools.proofs.BoolLaws.{split, true-false, flag-eq}
+use Rattle.pools.proofs.BoolLaws.{split, true-false}
 use Rattle.pools.proofs.SlotLaws.{slot-of-id}
 use Rattle.ledger.specs.Call.Op.{exit}
 use Rattle.tables.specs.declared.Caps.{Caps}
-use Rattle.tables.specs.Columns.{AGE, ARRIVED, HAND, LINK-ONE, LINK-TWO, MAIL-OWNER, PAYLOAD, PRIORITY, RUNNING, STATE, TIMER-OWNER, WATCHED, WATCHER}
+use Rattle.tables.specs.Columns.{AGE, HAND, LINK-ONE, LINK-TWO, MAIL-OWNER, PRIORITY, RUNNING, STATE, TIMER-OWNER, WATCHED, WATCHER}
 use Rattle.tables.specs.Limits.{ACTOR-FACTOR, LAST-REASON}
 use Rattle.tables.specs.State.{State, at, head, poke, with-col}
-use Rattle.tables.specs.Action.{freeBit}
 use Rattle.tables.proofs.ViewLaws.{Sized}
 use Rattle.rules.specs.Rule.{Holds}
 use Rattle.rules.specs.Terms.{FREE, RUNS, WAITS, actorId, alive, isActor, joins, runner, runnerId}
 use Rattle.rules.specs.Sound.{actorRule, endsRule, idleRule, onceRule, pairRule}
-use Rattle.rules.specs.Actions.{letGo}
-use Rattle.rules.specs.Calls.{cutLinks, dropAll, dropMonitors, dropTimers, exitEntry, farewell, leave, ruled, told}
+use Rattle.rules.specs.Calls.{cutLinks, dropMonitors, dropTimers, exitEntry, farewell, leave, ruled, told}
 use Rattle.rules.proofs.Claims.{Keeps}
 use Rattle.rules.proofs.Frame.{wrote-none}
-use Rattle.rules.proofs.Frames.{beside-dropAll, wrote-leave, wrote-letGo}
+use Rattle.rules.proofs.Frames.{wrote-leave}
 use Rattle.rules.proofs.Good.{Good}
 use Rattle.rules.proofs.Groups as Part
 use Rattle.rules.proofs.Patch.{_by_also_, done, patch}
@@ -34,8 +32,9 @@ use Rattle.rules.proofs.ColumnLaws.{alive-below, alive-other, each-set,
 use Rattle.rules.proofs.Ids.{id-free}
 use Rattle.rules.proofs.TieLaws.{below, used-inside}
 use Rattle.rules.proofs.Ties.{dropMonitors-ends, dropMonitors-keeps, dropMonitors-none, dropTimers-ends, dropTimers-keeps, dropTimers-none}
-use Rattle.rules.proofs.Messages.{dropAll-empties, dropAll-keeps, letGo-empty, letGo-keeps, unfill-is, unfilled, wipe}
-use Rattle.rules.proofs.ExitLaws.{Cut, Going, Unseen, cut-none, cutLinks-cuts, cutMonitors-cuts, unseen-none}
+use Rattle.rules.proofs.Messages.{clear}
+use Rattle.rules.proofs.ExitLaws.{Cut, Unseen, clear-going, cut-none, cutLinks-cuts, cutMonitors-cuts, unseen-none}
+use Rattle.rules.proofs.LedgerLaws.{runs-at}
 
 -- ---- slot a owns nothing, and nothing is aimed at it
 pub record Bare (k : Caps) (s : State) (a : ℕ) : Type 0 where
@@ -60,8 +59,8 @@ ends-stay st a one two n m h = ((h .0 .0, stays st a one (h .0 .0) n (h .0 .1)),
 pub leave-keeps : (k : Caps) (s : State) (a : ℕ) → Good k s → runner s ≡ suc a → Bare k s a → Good k (leave s a)
 unfolding leave poke with-col pairRule
 leave-keeps k s a g run bare =
-    let l : a < k .actors = omega (arith, g .head .0 .1) in
-    let u : at s STATE a ≡ RUNS = flag-eq (at s STATE a) RUNS (g .runs a l ∙ rw (eq-eqb (runner s) (suc a) run)) in
+    let l = runs-at k s g a run .0 in
+    let u = runs-at k s g a run .1 in
     let is : getD (set (s STATE) a 0) a 0 ≡ 0 = set-zero (s STATE) a in
     let level : getD (set (s PRIORITY) a 0) a 0 ≡ 0 = set-zero (s PRIORITY) a in
     let z : getD (set (s RUNNING) 0 0) 0 0 ≡ 0 = set-zero (s RUNNING) 0 in
@@ -88,42 +87,6 @@ leave-keeps k s a g run bare =
     Part.timers by (λ i h. (g .timers i h .0, (g .timers i h .1 .0, λ p. let c = g .timers i h .1 .1 p in (stays (s STATE) a (at s TIMER-OWNER i) (omega (arith, p)) (bare .timer i) (c .0), c .1)))) also
     done) refl
 
--- ---- hand and mailbox
--- the state without the hand and the mailbox of slot a
-abbrev pub emptied : State → ℕ → State
-emptied s a = dropAll (head s ARRIVED) (letGo s a) a
-
--- a data entry that is freed leaves the number of arrivals
-unfilled-arrived : (s : State) (d a : ℕ) (p : List ℕ) → poke (unfilled s d p) HAND a 0 ARRIVED ≡ s ARRIVED
-unfolding poke with-col freeBit
-unfilled-arrived s d a p = refl
-
--- so does a hand that lets go
-pub letGo-arrived : (s : State) (a : ℕ) → letGo s a ARRIVED ≡ s ARRIVED
-unfolding letGo
-letGo-arrived s a =
-    split (eqb (at s HAND a) 0) (λ q. rw q)
-    (λ q. rw (q, unfill-is s (at s HAND a - 1)) (unfilled-arrived s (at s HAND a - 1) a (wipe (s PAYLOAD) (at s HAND a - 1))))
-
-module _ (k : Caps) (s : State) (g : Good k s) (a : ℕ) (run : runner s ≡ suc a) where
-  -- the slot of the running actor is one of the slots
-  slot : a < k .actors
-  slot = omega (arith, g .head .0 .1)
-
-  -- the actor runs on, with nothing in hand and no mail
-  pub emptied-going : Going k a (actorId s a) (emptied s a)
-  emptied-going =
-      let m = head s ARRIVED in
-      let h = letGo-keeps k s a g slot in
-      let e : at (letGo s a) ARRIVED 0 ≡ m = ap (λ (c : List ℕ). getD c 0 0) (letGo-arrived s a) in
-      record {
-        good = dropAll-keeps m k (letGo s a) a h;
-        runs = rw (beside-dropAll m (letGo s a) a .cols RUNNING refl, wrote-letGo s a .cols RUNNING refl) run;
-        id = rw (beside-dropAll m (letGo s a) a .cols AGE refl, wrote-letGo s a .cols AGE refl) refl;
-        mail = rw e at (dropAll-empties k (letGo s a) a h);
-        hand = rw (beside-dropAll m (letGo s a) a .cols HAND refl) (letGo-empty k s a g slot);
-      }
-
 -- ---- nothing is left
 -- once the links with every slot are cut no link has slot a as an end
 unlinked : (k : Caps) (s u : State) (a me : ℕ) → Cut k a me (k .actors) s u → (e : ℕ) → (at u LINK-ONE e ≡ suc a) ⊎ (at u LINK-TWO e ≡ suc a) → ⊥
@@ -138,12 +101,15 @@ unlinked k s u a me w e o =
     (λ q. never (at u LINK-ONE e - 1) l (h .0 .1) (inr (omega (arith, h .0 .0), q)))
     o
   where
+    -- an entry in use is one of the entries
     in-range : (at u LINK-ONE e ≡ 0 → ⊥) → e < k .links
     in-range n = omega (arith, used-inside (u LINK-ONE) e n, w .going .good .sized .words LINK-ONE (lit< tt))
 
+    -- one not in use has no second end
     two : at u LINK-ONE e ≡ 0 → at u LINK-TWO e ≡ 0
     two z = elim (decLt e (k .links)) [ yes l ↦ w .going .good .links e l .0 z | no l ↦ List·getD-eq-default (u LINK-TWO) 0 {n = e} (omega (arith, w .going .good .sized .words LINK-TWO (lit< tt))) ]
 
+    -- it joins slot a with no live slot
     never : (b : ℕ) → e < k .links → alive (u STATE) b ≡ true → ((at u LINK-ONE e ≡ suc a) × (at u LINK-TWO e ≡ suc b)) ⊎ ((at u LINK-ONE e ≡ suc b) × (at u LINK-TWO e ≡ suc a)) → ⊥
     never b l there p =
         let m : b < k .actors = omega (arith, alive-below (u STATE) b there, w .going .good .sized .words STATE (lit< tt)) in
@@ -172,20 +138,20 @@ dropped k a s = dropTimers a (k .timers) (dropMonitors a (k .monitors) s)
 
 module _ (k : Caps) (s : State) (g : Good k s) (a reason : ℕ) (run : runner s ≡ suc a) where
   -- the links with every slot are cut
-  pub links-cut : Cut k a (actorId s a) (k .actors) (emptied s a) (cutLinks k a (actorId s a) reason (k .actors) (told 0 0 (emptied s a)) .state)
-  links-cut = cutLinks-cuts k (emptied s a) (told 0 0 (emptied s a)) a (actorId s a) reason (k .actors) (cut-none k (emptied s a) a (actorId s a) (emptied-going k s g a run))
+  pub links-cut : Cut k a (actorId s a) (k .actors) (clear s a) (cutLinks k a (actorId s a) reason (k .actors) (told 0 0 (clear s a)) .state)
+  links-cut = cutLinks-cuts k (clear s a) (told 0 0 (clear s a)) a (actorId s a) reason (k .actors) (cut-none k (clear s a) a (actorId s a) (clear-going k s a (actorId s a) g run refl))
 
   -- and the monitors on it
-  pub monitors-cut : Unseen k a (actorId s a) (k .monitors) (cutLinks k a (actorId s a) reason (k .actors) (told 0 0 (emptied s a)) .state) (farewell k a (actorId s a) reason s .state)
+  pub monitors-cut : Unseen k a (actorId s a) (k .monitors) (cutLinks k a (actorId s a) reason (k .actors) (told 0 0 (clear s a)) .state) (farewell k a (actorId s a) reason s .state)
   unfolding farewell
   monitors-cut =
-      let t = cutLinks k a (actorId s a) reason (k .actors) (told 0 0 (emptied s a)) in
+      let t = cutLinks k a (actorId s a) reason (k .actors) (told 0 0 (clear s a)) in
       cutMonitors-cuts k (t .state) t a (actorId s a) reason (k .monitors) (omega arith) (unseen-none k (t .state) a (actorId s a) (links-cut .going))
 
   -- the actor owns nothing, and nothing is aimed at it
   pub dropped-bare : Bare k (dropped k a (farewell k a (actorId s a) reason s .state)) a
   dropped-bare =
-      let v = cutLinks k a (actorId s a) reason (k .actors) (told 0 0 (emptied s a)) .state in
+      let v = cutLinks k a (actorId s a) reason (k .actors) (told 0 0 (clear s a)) .state in
       let u = farewell k a (actorId s a) reason s .state in
       let m = dropMonitors a (k .monitors) u in
       let c = links-cut in
@@ -195,7 +161,7 @@ module _ (k : Caps) (s : State) (g : Good k s) (a reason : ℕ) (run : runner s 
       let gm = dropMonitors-keeps k a u gu in
       let y = dropTimers-ends k a m (gm .sized) in
       let gt = dropTimers-keeps k a m gm in
-      let loose = unlinked k (emptied s a) v a (actorId s a) c in
+      let loose = unlinked k (clear s a) v a (actorId s a) c in
       record {
         mail = rw (y .wrote .cols MAIL-OWNER refl, x .wrote .cols MAIL-OWNER refl) (w .going .mail);
         hand = rw (y .wrote .cols HAND refl, x .wrote .cols HAND refl) (w .going .hand);

@@ -6,49 +6,49 @@ use mathlib.Core.Path.{_≡_, refl, sym, ap, ap₂, subst, _∙_}
 use mathlib.Core.Bool.{Bool, true, false, cond, not, _&&_, _||_, and-false}
 use mathlib.Core.List.{List, [], _∷_, _++_, map, map-map, append-assoc, append-nil}
 use lib.ListN.{length, getD, set, take, length-append, List·getD-eq-default}
-use lib.Seq.{take-append-le}
+use lib.Seq.{take-all, take-append-le}
 use lib.Dec.{eqb, ltb, lit<}
 use borrow.Author.Tests.{eqb-true, eqb-false, eq-eqb, ne-eqb, ltb-false, le-ltb, not-true}
 use Rattle.ledger.specs.Call.Op.{exit}
 use Rattle.ledger.specs.Ledger.{Actor, Ledger, Link, Message, Monitor, mail, ties, withMail, withTies}
 use Rattle.ledger.specs.Lists.{those, bySlot}
 use Rattle.ledger.specs.Reckon
-use Rattle.ledger.specs.Reckon.{cleared, departed, endLinks, endMonitors, endTimers, entered, gone, linked, message, notice, notices, sent, wornBy}
+use Rattle.ledger.specs.Reckon.{cleared, departed, endLinks, endMonitors, endTimers, entered, gone, linked, notice, notices, sent, wornBy}
 use Rattle.pools.specs.Pool.{occurs, Exact}
 use Rattle.pools.specs.Lists.{keep}
 use Rattle.pools.specs.Slot.{idOf, unused}
-use Rattle.pools.proofs.BoolLaws.{split, true-false, flag-eq}
+use Rattle.pools.proofs.BoolLaws.{split, true-false}
 use Rattle.pools.proofs.PoolLaws.{lowest-first, lowest-same}
 use Rattle.pools.proofs.ListLaws.{keep-same-on}
 use Rattle.pools.proofs.ExactLaws.{exact-used}
 use Rattle.pools.proofs.SlotLaws.{slot-of-id}
 use Rattle.records.specs.Bytes
-use Rattle.records.specs.Header.{classOf, packed, tagOf}
+use Rattle.records.specs.Header.{packed}
 use Rattle.records.specs.Records.{exitBytes}
 use Rattle.tables.specs.declared.Caps.{Caps}
 use Rattle.tables.specs.Columns.{AGE, LINK-ONE, LINK-TWO, MONITOR-AGE, PRIORITY, RUNNING, STATE, WATCHED, WATCHER}
 use Rattle.tables.specs.Limits.{ACTOR-FACTOR, LAST-REASON, MONITOR-FACTOR}
-use Rattle.tables.specs.State.{State, at, head, poke, with-col}
-use Rattle.rules.specs.Terms.{RUNS, actorId, alive, joins, monitorId, runner, runnerId}
+use Rattle.tables.specs.State.{State, at, poke, with-col}
+use Rattle.rules.specs.Terms.{actorId, alive, joins, monitorId, runner, runnerId}
 use Rattle.rules.specs.Agrees.{Agrees, actorAt, isWorn, linkAt, monitorAt}
-use Rattle.rules.specs.Actions.{hasRoom, letGo, post}
+use Rattle.rules.specs.Actions.{hasRoom, post}
 use Rattle.rules.specs.Calls.{Told, cutLink, cutLinks, cutMonitor, cutMonitors, dropMonitors, dropTimers, exitEntry, farewell, leave, linkOf, ruled, tell, tie, told, unwatch}
 use Rattle.rules.proofs.Claims.{Agreed, Tested}
 use Rattle.rules.proofs.Good.{Good}
-use Rattle.rules.proofs.ColumnLaws.{alive-of, other, set-zero}
-use Rattle.rules.proofs.LedgerLaws.{alive-slot, id-eqb, idle-same, map-same-on, running-is, slot-map, those-map}
+use Rattle.rules.proofs.ColumnLaws.{other, set-zero}
+use Rattle.rules.proofs.LedgerLaws.{alive-slot, id-eqb, idle-same, map-same-on, running-is, runs-alive, slot-map, those-map}
 use Rattle.rules.proofs.TieLaws
 use Rattle.rules.proofs.TieLaws.{below, ends, keep-in, set-cond, used-inside, worn-ends}
 use Rattle.rules.proofs.AgreeLaws.{agrees-links, agrees-monitors, agrees-people}
 use Rattle.rules.proofs.Frame.{wrote-none}
-use Rattle.rules.proofs.Frames.{wrote-leave, wrote-letGo, wrote-tie}
+use Rattle.rules.proofs.Frames.{wrote-leave, wrote-tie}
 use Rattle.rules.proofs.Ties.{dropMonitors-ends, dropMonitors-keeps, dropTimers-ends, dropTimers-keeps, unwatch-ends}
 use Rattle.rules.proofs.TiesAgree.{bond-joins, bond-used, dropMonitors-agrees, dropTimers-agrees, eye-used, linked-once, linked-same, untie-agrees, unwatch-agrees, up-id}
-use Rattle.rules.proofs.Messages.{Fine, letGo-keeps}
-use Rattle.rules.proofs.MessagesAgree.{dropAll-agrees, handless, letGo-agrees-at, post-agrees}
+use Rattle.rules.proofs.Messages.{clear}
+use Rattle.rules.proofs.MessagesAgree.{clear-agrees, exit-says, post-agrees}
 use Rattle.rules.proofs.NoticeLaws.{keep-once, map-rows, rows, rows-no, rows-past, rows-same, rows-yes, slot-rows, those-all, those-then, upto, upto-less, upto-more, upto-no, upto-yes}
-use Rattle.rules.proofs.ExitLaws.{Cut, Going, Unseen, cut-none, cutLink-no, cutLink-yes, cutLinks-cuts, cutMonitor-no, cutMonitor-yes, cutMonitors-cuts, exit-fine, going-alive, link-found, tell-lost, tell-sent, unseen-next, unseen-none, unseen-one, untied, watcher-there}
-use Rattle.rules.proofs.Exit.{dropped, emptied, emptied-going, letGo-arrived, links-cut, monitors-cut}
+use Rattle.rules.proofs.ExitLaws.{Cut, Going, Unseen, clear-going, cut-none, cutLink-no, cutLink-yes, cutLinks-cuts, cutMonitor-no, cutMonitor-yes, cutMonitors-cuts, going-alive, going-fine, link-found, tell-lost, tell-sent, unseen-next, unseen-none, unseen-one, untied, watcher-there}
+use Rattle.rules.proofs.Exit.{dropped, links-cut, monitors-cut}
 
 -- ---- the reckoning in the midst of an exit
 -- it has more messages, and has lost the links and the monitors that pass; worn slots of monitors may be listed in another order
@@ -63,23 +63,12 @@ pub record Along (k : Caps) (l : Ledger) (ns : List Message) (p : Link → Bool)
   pub count : t .sent + t .lost ≡ length ns
   pub full : (t .lost ≡ 0 → ⊥) → hasRoom k (t .state) ≡ false
 
--- an exit notice is the reckoning's
-notice-is : (me reason monitor to : ℕ) → message to me (classOf (packed 4 1 0)) (tagOf (packed 4 1 0)) (exitBytes me reason monitor) ≡ notice me reason monitor to
-unfolding exitBytes Bytes.le
-notice-is me reason monitor to = refl
-
 -- one more of a list of which all were sent
 take-more : (b ns : List Message) (m : Message) (n : ℕ) → n ≡ length ns → (b ++ take n ns) ++ (m ∷ []) ≡ b ++ take (n + 1) (ns ++ (m ∷ []))
 take-more b ns m n e =
     let v : take n ns ≡ ns = take-all n ns (omega arith) in
     let w : take (n + 1) (ns ++ (m ∷ [])) ≡ ns ++ (m ∷ []) = take-all (n + 1) (ns ++ (m ∷ [])) (omega (arith, length-append ns (m ∷ []))) in
     rw (v, w) (append-assoc b ns (m ∷ []))
-  where
-    take-all : (n : ℕ) (l : List Message) → length l ≤ n → take n l ≡ l
-    take-all zero [] h = refl
-    take-all zero (x ∷ l) h = absurd (omega arith)
-    take-all (suc n) [] h = refl
-    take-all (suc n) (x ∷ l) h = ap (λ (r : List Message). x ∷ r) (take-all n l (omega arith))
 
 -- ---- a notice
 module _ (k : Caps) (l : Ledger) (ns : List Message) (p : Link → Bool) (q : Monitor → Bool) (t : Told) (a b me reason monitor : ℕ) (w : Going k a me (t .state)) (there : alive (t .state STATE) b ≡ true) (r : Along k l ns p q t) where
@@ -89,14 +78,13 @@ module _ (k : Caps) (l : Ledger) (ns : List Message) (p : Link → Bool) (q : Mo
   told-sent y =
       let s = t .state in
       let m = notice me reason monitor (actorId s b) in
-      let f : Fine (s AGE) me (packed 4 1 0) (exitBytes me reason monitor) = subst (λ (i : ℕ). Fine (s AGE) i (packed 4 1 0) (exitBytes i reason monitor)) (w .id) (exit-fine k s a reason monitor (w .good) (going-alive w)) in
       let z : t .lost ≡ 0 = elim (ℕ-discrete (t .lost) 0) [ yes z ↦ z | no z ↦ true-false (hasRoom k s) y (r .full z) ] in
       let n : t .sent ≡ length ns = omega (arith, r .count) in
       record {
         worn = r .worn;
         agrees = subst (λ (bs : List Message). Agrees k (withMail (left l [] p q (r .worn)) (mail bs (l .mail .hands))) (post k s b me (packed 4 1 0) (exitBytes me reason monitor))) (take-more (l .mail .boxes) ns m (t .sent) n)
-            (subst (λ (x : Message). Agrees k (sent (x ∷ []) (left l (take (t .sent) ns) p q (r .worn))) (post k s b me (packed 4 1 0) (exitBytes me reason monitor))) (notice-is me reason monitor (actorId s b))
-            (post-agrees k s (left l (take (t .sent) ns) p q (r .worn)) b (w .good) (r .agrees) there me (packed 4 1 0) (exitBytes me reason monitor) y f));
+            (subst (λ (x : Message). Agrees k (sent (x ∷ []) (left l (take (t .sent) ns) p q (r .worn))) (post k s b me (packed 4 1 0) (exitBytes me reason monitor))) (exit-says me reason monitor (actorId s b))
+            (post-agrees k s (left l (take (t .sent) ns) p q (r .worn)) b (w .good) (r .agrees) there me (packed 4 1 0) (exitBytes me reason monitor) y (going-fine w reason monitor)));
         count = omega (arith, r .count, length-append ns (m ∷ []));
         full = λ h. absurd (h z);
       }
@@ -439,27 +427,14 @@ eyes-same s u a me reason n e f y z = (
 )
 
 module _ (k : Caps) (s : State) (l : Ledger) (g : Good k s) (r : Agrees k l s) (a reason : ℕ) (run : runner s ≡ suc a) where
-  -- the running actor is alive
-  runs-there : alive (s STATE) a ≡ true
-  runs-there = alive-of (s STATE) a (λ z. omega (arith, flag-eq (at s STATE a) RUNS (g .runs a (omega (arith, g .head .0 .1)) ∙ rw (eq-eqb (runner s) (suc a) run))))
-
-  -- "hand and mailbox freed"
-  emptied-agrees : Agrees k (cleared (actorId s a) l) (emptied s a)
-  unfolding cleared
-  emptied-agrees =
-      let m : a < k .actors = omega (arith, g .head .0 .1) in
-      let w : letGo s a STATE ≡ s STATE = wrote-letGo s a .cols STATE refl in
-      let v : letGo s a AGE ≡ s AGE = wrote-letGo s a .cols AGE refl in
-      let h = dropAll-agrees k (letGo s a) (handless (actorId s a) l) a (letGo-keeps k s a g m) (letGo-agrees-at k s l g r a runs-there) (rw w runs-there) in
-      rw (v, letGo-arrived s a) at h
-
   -- the notices are the reckoning's, sent as long as there is room, and the links and the monitors on the actor are gone
-  pub farewell-along : Along k (cleared (actorId s a) l) (notices l (actorId s a) reason) (linkGone k (emptied s a) a (actorId s a) (k .actors)) (eyeGone (emptied s a) a (k .monitors)) (farewell k a (actorId s a) reason s)
+  pub farewell-along : Along k (cleared (actorId s a) l) (notices l (actorId s a) reason) (linkGone k (clear s a) a (actorId s a) (k .actors)) (eyeGone (clear s a) a (k .monitors)) (farewell k a (actorId s a) reason s)
   unfolding farewell cleared notices
   farewell-along =
-      let s₀ = emptied s a in
+      let s₀ = clear s a in
       let me = actorId s a in
-      let w = emptied-going k s g a run in
+      let w = clear-going k s a me g run refl in
+      let r₀ = clear-agrees k s l a g r (runs-alive k s g a run) in
       let c = links-cut k s g a reason run in
       let t = cutLinks k a me reason (k .actors) (told 0 0 s₀) in
       let v = t .state in
@@ -468,10 +443,10 @@ module _ (k : Caps) (s : State) (l : Ledger) (g : Good k s) (r : Agrees k l s) (
       let e = eyes-same s₀ v a me reason (k .monitors) (c .wrote .cols WATCHED refl) (c .wrote .cols WATCHER refl) (c .wrote .cols MONITOR-AGE refl) (c .wrote .cols AGE refl) in
       let all : ns ++ eyeNotes s₀ a me reason (k .monitors) ≡ notices (cleared me l) me reason =
       subst (λ (i : ℕ). linkNotes k s₀ a i reason (k .actors) ++ eyeNotes s₀ a i reason (k .monitors) ≡ notices (cleared me l) i reason) (w .id)
-      (notices-are k s₀ (cleared me l) (w .good) emptied-agrees a reason (going-alive w)) in
+      (notices-are k s₀ (cleared me l) (w .good) r₀ a reason (going-alive w)) in
       along-same (ap (λ (l : List Message). ns ++ l) (e .0) ∙ all) refl (e .1)
       (monitors-along k (cleared me l) v a me reason ns p (k .monitors) t (omega arith) (unseen-none k v a me (c .going))
-      (links-along k (cleared me l) s₀ a me reason (λ m. false) (k .actors) w (begin-along k (cleared me l) s₀ emptied-agrees)))
+      (links-along k (cleared me l) s₀ a me reason (λ m. false) (k .actors) w (begin-along k (cleared me l) s₀ r₀)))
 
 -- what is left of a monitor's watcher once the monitors on an actor and then its own are gone
 watcher-left : (n e : ℕ) (seen : Bool) (x v : ℕ) → (ltb e n ≡ false → x ≡ 0) → (v ≡ 0 → ⊥) →
@@ -488,7 +463,7 @@ leave-eyes s a = (refl, refl)
 
 module _ (k : Caps) (s : State) (l : Ledger) (g : Good k s) (r : Agrees k l s) (a reason : ℕ) (run : runner s ≡ suc a) where
   -- the watchers that are left
-  watchers-left : (e : ℕ) → at (dropped k a (farewell k a (actorId s a) reason s .state)) WATCHER e ≡ cond (seenBy (emptied s a) a e || eqb (at (emptied s a) WATCHER e) (suc a)) 0 (at (emptied s a) WATCHER e)
+  watchers-left : (e : ℕ) → at (dropped k a (farewell k a (actorId s a) reason s .state)) WATCHER e ≡ cond (seenBy (clear s a) a e || eqb (at (clear s a) WATCHER e) (suc a)) 0 (at (clear s a) WATCHER e)
   watchers-left e =
       let u = farewell k a (actorId s a) reason s .state in
       let m = dropMonitors a (k .monitors) u in
@@ -497,13 +472,13 @@ module _ (k : Caps) (s : State) (l : Ledger) (g : Good k s) (r : Agrees k l s) (
       let gu = w .going .good in
       let x = dropMonitors-ends k a u (gu .sized) in
       let y = dropTimers-ends k a m (dropMonitors-keeps k a u gu .sized) in
-      let h : at u WATCHER e ≡ cond (below (emptied s a WATCHED) (suc a) (k .monitors) e) 0 (at (emptied s a) WATCHER e) = rw (c .wrote .cols WATCHED refl, c .wrote .cols WATCHER refl) at (w .watcher e) in
+      let h : at u WATCHER e ≡ cond (below (clear s a WATCHED) (suc a) (k .monitors) e) 0 (at (clear s a) WATCHER e) = rw (c .wrote .cols WATCHED refl, c .wrote .cols WATCHER refl) at (w .watcher e) in
       rw (y .wrote .cols WATCHER refl) (x .watcher e ∙ rw h
-      (watcher-left (k .monitors) e (seenBy (emptied s a) a e) (at (emptied s a) WATCHER e) (suc a)
-      (λ q. List·getD-eq-default (emptied s a WATCHER) 0 {n = e} (omega (arith, ltb-false e (k .monitors) q, emptied-going k s g a run .good .sized .words WATCHER (lit< tt)))) (λ z. omega arith)))
+      (watcher-left (k .monitors) e (seenBy (clear s a) a e) (at (clear s a) WATCHER e) (suc a)
+      (λ q. List·getD-eq-default (clear s a WATCHER) 0 {n = e} (omega (arith, ltb-false e (k .monitors) q, clear-going k s a (actorId s a) g run refl .good .sized .words WATCHER (lit< tt)))) (λ z. omega arith)))
 
   -- and the ages of the monitors' slots
-  ages-left : dropped k a (farewell k a (actorId s a) reason s .state) MONITOR-AGE ≡ emptied s a MONITOR-AGE
+  ages-left : dropped k a (farewell k a (actorId s a) reason s .state) MONITOR-AGE ≡ clear s a MONITOR-AGE
   ages-left =
       let u = farewell k a (actorId s a) reason s .state in
       let w = monitors-cut k s g a reason run in
@@ -515,10 +490,10 @@ module _ (k : Caps) (s : State) (l : Ledger) (g : Good k s) (r : Agrees k l s) (
   unfolding departed gone endTimers endMonitors endLinks cleared
   departed-agrees =
       let me = actorId s a in
-      let s₀ = emptied s a in
+      let s₀ = clear s a in
       let l₀ = cleared me l in
-      let w₀ = emptied-going k s g a run in
-      let r₀ = emptied-agrees k s l g r a reason run in
+      let w₀ = clear-going k s a me g run refl in
+      let r₀ = clear-agrees k s l a g r (runs-alive k s g a run) in
       let t = farewell k a me reason s in
       let u = t .state in
       let w = monitors-cut k s g a reason run in

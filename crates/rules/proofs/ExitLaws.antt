@@ -10,27 +10,27 @@ use lib.ListN.{length, getD, set, length-set, List·getD-eq-default}
 use lib.Seq.{getD-set-same}
 use lib.Dec.{eqb, ltb, lit<}
 use borrow.Author.Tests.{eqb-true, eqb-false, eq-eqb, ne-eqb, ltb-true, ltb-false, lt-ltb, le-ltb}
-use Rattle.pools.proofs.BoolLaws.{split, true-false, flag-eq}
+use Rattle.pools.proofs.BoolLaws.{split, true-false}
 use Rattle.pools.proofs.PoolLaws.{lowest-at, lowest-first}
-use Rattle.records.specs.Header.{classOf, packed}
+use Rattle.records.specs.Header.{packed}
 use Rattle.records.specs.Records.{exitBytes}
-use Rattle.records.proofs.HeaderLaws.{packed-fits}
-use Rattle.records.proofs.RecordLaws.{length-exit}
 use Rattle.tables.specs.declared.Caps.{Caps}
 use Rattle.tables.specs.Columns.{AGE, HAND, LINK-ONE, LINK-TWO, MAIL-OWNER, MONITOR-AGE, RUNNING, STATE, WATCHED, WATCHER}
 use Rattle.tables.specs.State.{State, at, head, poke, with-col}
 use Rattle.tables.specs.Action.{push, takeBit}
-use Rattle.rules.specs.Terms.{RUNS, actorId, alive, joins, monitorId, runner}
-use Rattle.rules.specs.Sound.{pairRule}
+use Rattle.rules.specs.Terms.{MESSAGE, actorId, alive, joins, monitorId, runner}
+use Rattle.rules.specs.Sound.{pairRule, senderRule}
 use Rattle.rules.specs.Actions.{enlist, hasRoom, hears, mailFor, post, ready, unwait, wake}
 use Rattle.rules.specs.Calls.{Told, cutLink, cutLinks, cutMonitor, cutMonitors, linkOf, tell, tie, told, unwatch}
+use Rattle.rules.specs.Rule.{Holds}
 use Rattle.rules.proofs.Good.{Good}
-use Rattle.rules.proofs.ColumnLaws.{alive-of, each-set, other}
+use Rattle.rules.proofs.ColumnLaws.{each-set, other}
 use Rattle.rules.proofs.TieLaws.{below, below-no, below-none, below-yes, cond-twice, joins-ends, joins-none, pair-once, step}
 use Rattle.rules.proofs.Frame.{Wrote, wrote-none, wrote-over, wrote-still}
 use Rattle.rules.proofs.Frames.{LINKED, POSTED, WATCHES, wrote-post, wrote-tie}
 use Rattle.rules.proofs.Ties.{unwatch-ends, unwatch-keeps, untie-keeps}
-use Rattle.rules.proofs.Messages.{Fine, joined, post-heard, post-keeps, post-unheard, sender-fine}
+use Rattle.rules.proofs.Messages.{Fine, beside-clear, clear, clear-empties, clear-hand, clear-keeps, exit-fine, joined, post-heard, post-keeps, post-unheard, sender-fine}
+use Rattle.rules.proofs.LedgerLaws.{runs-alive, runs-at}
 
 -- ---- what a message leaves
 -- the owners of mailbox entries: one entry is the target's
@@ -43,7 +43,7 @@ pub post-owner : (k : Caps) (s : State) (a sender head : ℕ) (payload : List �
 unfolding ready unwait push poke with-col
 post-owner k s a sender head payload =
     split (hears s a sender head)
-    (λ h. rw (post-heard k s a sender head payload h) (joined-owner k (wake s a 1) a sender head payload))
+    (λ h. rw (post-heard k s a sender head payload h) (joined-owner k (wake s a MESSAGE) a sender head payload))
     (λ h. rw (post-unheard k s a sender head payload h) (joined-owner k s a sender head payload))
 
 -- a column of which no word is a number has none after another number was written
@@ -52,17 +52,6 @@ set-none l i v w n z h e =
     each-set (λ e. getD (set l i v) e 0 ≡ w → ⊥) i e
     (λ q. elim (decLt i (length l)) [ yes m ↦ n (sym (getD-set-same l i v 0 m) ∙ q) | no m ↦ z (sym (List·getD-eq-default (set l i v) 0 {n = i} (rw length-set (omega arith))) ∙ q) ])
     (λ r q. h e (sym (other l i v e r) ∙ q))
-
--- ---- an exit notice is what is asked of a message
-pub exit-fine : (k : Caps) (s : State) (a reason monitor : ℕ) → Good k s → alive (s STATE) a ≡ true → Fine (s AGE) (actorId s a) (packed 4 1 0) (exitBytes (actorId s a) reason monitor)
-exit-fine k s a reason monitor g there =
-    let n = length-exit (actorId s a) reason monitor in
-    record {
-      small = packed-fits 4 1 0 (omega arith) (omega arith) (omega arith);
-      headed = (λ z. absurd (omega arith), λ z. ((omega arith, omega arith), (omega arith, omega arith)));
-      lengthy = (omega arith, (λ z. absurd (omega arith), λ z. n));
-      sent = sender-fine k s a (classOf (packed 4 1 0)) g there;
-    }
 
 -- ---- what stays true of the actor of slot a while it ends
 pub record Going (k : Caps) (a me : ℕ) (s : State) : Type 0 where
@@ -74,16 +63,31 @@ pub record Going (k : Caps) (a me : ℕ) (s : State) : Type 0 where
 
 -- it is one of the slots
 pub going-slot : {k : Caps} {a me : ℕ} {s : State} → Going k a me s → a < k .actors
-going-slot w = omega (arith, w .good .head .0 .1, w .runs)
+going-slot {k} {a} {me} {s} w = runs-at k s (w .good) a (w .runs) .0
 
 -- and it is alive
 pub going-alive : {k : Caps} {a me : ℕ} {s : State} → Going k a me s → alive (s STATE) a ≡ true
-going-alive {a = a} {s = s} w =
-    alive-of (s STATE) a (λ z. omega (arith, flag-eq (at s STATE a) RUNS (w .good .runs a (going-slot w) ∙ rw (eq-eqb (runner s) (suc a) (w .runs)))))
+going-alive {k} {a} {me} {s} w = runs-alive k s (w .good) a (w .runs)
+
+-- its exit notice is what is asked of a message
+pub going-fine : {k : Caps} {a me : ℕ} {s : State} → Going k a me s → (reason monitor : ℕ) → Fine (s AGE) me (packed 4 1 0) (exitBytes me reason monitor)
+going-fine {k} {a} {me} {s} w reason monitor = exit-fine (s AGE) me reason monitor (subst (λ (i : ℕ). Holds (senderRule (s AGE) 4 i)) (w .id) (sender-fine k s a 4 (w .good) (going-alive w)))
 
 -- a change that leaves these columns as they are, and a sound state
 pub going-on : {k : Caps} {a me : ℕ} {s : State} (u : State) → Going k a me s → Good k u → u RUNNING ≡ s RUNNING → u AGE ≡ s AGE → u HAND ≡ s HAND → ((e : ℕ) → at u MAIL-OWNER e ≡ suc a → ⊥) → Going k a me u
 going-on u w g r y h m = record { good = g; runs = rw r (w .runs); id = rw y (w .id); mail = m; hand = rw h (w .hand) }
+
+-- once its hand and its mailbox are empty
+pub clear-going : (k : Caps) (s : State) (a me : ℕ) → Good k s → runner s ≡ suc a → actorId s a ≡ me → Going k a me (clear s a)
+clear-going k s a me g r e =
+    let l : a < k .actors = omega (arith, g .head .0 .1, r) in
+    record {
+      good = clear-keeps k s a g l;
+      runs = rw (beside-clear s a .cols RUNNING refl) r;
+      id = rw (beside-clear s a .cols AGE refl) e;
+      mail = clear-empties k s a g l;
+      hand = clear-hand k s a g l;
+    }
 
 -- ---- a notice
 module _ (k : Caps) (t : Told) (a me reason monitor : ℕ) where
@@ -109,9 +113,8 @@ tell-going k t a b me reason monitor w there n =
     split (hasRoom k s)
     (λ r. let u = post k s b me (packed 4 1 0) (exitBytes me reason monitor) in
     let p = wrote-post k s b me (packed 4 1 0) (exitBytes me reason monitor) .cols in
-    let f : Fine (s AGE) me (packed 4 1 0) (exitBytes me reason monitor) = subst (λ (i : ℕ). Fine (s AGE) i (packed 4 1 0) (exitBytes i reason monitor)) (w .id) (exit-fine k s a reason monitor (w .good) (going-alive w)) in
     rw (tell-sent k t b me reason monitor r)
-    (going-on u w (post-keeps k s b (w .good) there me (packed 4 1 0) (exitBytes me reason monitor) r f) (p RUNNING refl) (p AGE refl) (p HAND refl)
+    (going-on u w (post-keeps k s b (w .good) there me (packed 4 1 0) (exitBytes me reason monitor) r (going-fine w reason monitor)) (p RUNNING refl) (p AGE refl) (p HAND refl)
     (rw (post-owner k s b me (packed 4 1 0) (exitBytes me reason monitor)) (set-none (s MAIL-OWNER) (mailFor k s) (suc b) (suc a) (λ e. n (omega arith)) (λ e. omega arith) (w .mail)))))
     (λ r. rw (tell-lost k t b me reason monitor r) w)
 

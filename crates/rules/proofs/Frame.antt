@@ -7,9 +7,9 @@ use native.Mathlib.Omega.{arith}
 use lib.ListN.{length, set, length-set}
 use lib.Seq.{take-all, length-sets}
 use lib.Dec.{eqb}
-use borrow.Author.Tests.{eqb-true}
+use borrow.Author.Tests.{eqb-true, not-true}
 use Rattle.pools.specs.Bits.{taken, released}
-use Rattle.pools.proofs.BoolLaws.{split, and-left, and-right, true-false}
+use Rattle.pools.proofs.BoolLaws.{split, and-left, and-right, true-false, neither}
 use Rattle.pools.proofs.FreeLaws.{length-taken, length-released}
 use Rattle.tables.specs.declared.Caps.{Caps}
 use Rattle.tables.specs.Columns.{PAYLOAD}
@@ -29,27 +29,12 @@ abbrev pub apart : List ℕ → List ℕ → Bool
 apart [] ds = true
 apart (c ∷ cs) ds = not (mem c ds) && apart cs ds
 
--- neither holds
-or-left : (a b : Bool) → a || b ≡ false → a ≡ false
-or-left true b e = e
-or-left false b e = refl
-
--- nor does the second
-or-right : (a b : Bool) → a || b ≡ false → b ≡ false
-or-right true b e = true-false true refl e
-or-right false b e = e
-
--- the opposite of a test that fails
-not-false : (a : Bool) → not a ≡ true → a ≡ false
-not-false true e = true-false false e refl
-not-false false e = refl
-
 -- what is in the first of two lists apart is not in the second
 pub apart-at : (cs ds : List ℕ) → apart cs ds ≡ true → (c : ℕ) → mem c cs ≡ true → mem c ds ≡ false
 apart-at [] ds e c m = true-false false m refl
 apart-at (b ∷ cs) ds e c m =
     split (eqb c b)
-    (λ q. rw (eqb-true c b q) (not-false (mem b ds) (and-left (not (mem b ds)) (apart cs ds) e)))
+    (λ q. rw (eqb-true c b q) (not-true (mem b ds) (and-left (not (mem b ds)) (apart cs ds) e)))
     (λ q. apart-at cs ds (and-right (not (mem b ds)) (apart cs ds) e) c (rw q at m))
 
 -- ---- THE FRAME of an action: t is s but for the columns ws
@@ -92,7 +77,7 @@ module _ {ws : List ℕ} {s t : State} (w : Wrote ws s t) where
   pub wrote-with : (c : ℕ) (l : List ℕ) → length l ≡ length (t c) → Wrote (c ∷ ws) s (with-col t c l)
   unfolding with-col
   wrote-with c l e = record {
-    cols = λ d q. rw (or-left (eqb d c) (mem d ws) q) (w .cols d (or-right (eqb d c) (mem d ws) q));
+    cols = λ d q. rw (neither (eqb d c) (mem d ws) q .0) (w .cols d (neither (eqb d c) (mem d ws) q .1));
     long = λ d. split (eqb d c) (λ q. rw (q, eqb-true d c q) (e ∙ w .long c)) (λ q. rw q (w .long d));
   }
 
@@ -178,7 +163,7 @@ module _ {ws : List ℕ} {s t : State} (w : Beside ws s t) where
   -- a column anew
   pub beside-with : (c : ℕ) (l : List ℕ) → Beside (c ∷ ws) s (with-col t c l)
   unfolding with-col
-  beside-with c l = record { cols = λ d q. rw (or-left (eqb d c) (mem d ws) q) (w .cols d (or-right (eqb d c) (mem d ws) q)) }
+  beside-with c l = record { cols = λ d q. rw (neither (eqb d c) (mem d ws) q .0) (w .cols d (neither (eqb d c) (mem d ws) q .1)) }
 
   -- a word
   pub beside-poke : (c i v : ℕ) → Beside (c ∷ ws) s (poke t c i v)

@@ -10,9 +10,8 @@ use lib.Dec.{eqb, ltb}
 use borrow.Author.Tests.{eqb-true, eqb-false, eq-eqb, ltb-true, ltb-false, lt-ltb, le-ltb}
 use Rattle.ledger.specs.Lists.{first}
 use Rattle.pools.specs.Pool.{occurs}
-use Rattle.pools.proofs.BoolLaws.{split, true-false, and-left, and-right}
+use Rattle.pools.proofs.BoolLaws.{split, true-false, and-left, and-right, neither}
 use Rattle.rules.specs.Actions.{least}
-use Rattle.rules.proofs.TieLaws.{or-right}
 
 -- ---- "by due time, equal ones by lower slot"
 -- entry j with the time x comes before entry b with the time y
@@ -31,7 +30,7 @@ module _ (x y j b : ℕ) where
 
   -- and at one time its slot no lower
   pub no-lower : before x y j b ≡ false → x ≡ y → b ≤ j
-  no-lower e q = ltb-false j b (let r : eqb x y && ltb j b ≡ false = or-right (ltb x y) (eqb x y && ltb j b) e in rw (eq-eqb x y q) at r)
+  no-lower e q = ltb-false j b (let r : eqb x y && ltb j b ≡ false = neither (ltb x y) (eqb x y && ltb j b) e .1 in rw (eq-eqb x y q) at r)
 
   -- of two different ones that does not come before, the other does
   pub other-before : (j ≡ b → ⊥) → before x y j b ≡ false → before y x b j ≡ true
@@ -91,7 +90,7 @@ module _ (f : ℕ → Bool) (g : ℕ → ℕ) (n : ℕ) where
     passes = h .passes;
     first = λ z j l t. elim (ℕ-discrete j n) [
       | yes y ↦
-          let m : g (b - 1) ≤ g n = ltb-false (g n) (g (b - 1)) (let r : eqb b 0 || ltb (g n) (g (b - 1)) ≡ false = rw (sym (ap f y) ∙ t) at q in or-right (eqb b 0) (ltb (g n) (g (b - 1))) r) in
+          let m : g (b - 1) ≤ g n = ltb-false (g n) (g (b - 1)) (let r : eqb b 0 || ltb (g n) (g (b - 1)) ≡ false = rw (sym (ap f y) ∙ t) at q in neither (eqb b 0) (ltb (g n) (g (b - 1))) r .1) in
           rw y (before-no (g n) (g (b - 1)) n (b - 1) m (λ w. omega (arith, h .within)))
       | no y ↦ h .first z j (omega arith) t
     ];

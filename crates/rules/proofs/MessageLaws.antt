@@ -119,11 +119,6 @@ pub blank-same : (p q : List ℕ) (d : ℕ) → bytesAt q d ≡ bytesAt p d → 
 unfolding zeros
 blank-same p q d e z i l = byte-bytes q d i l ∙ ap (λ (l : List ℕ). getD l i 0) e ∙ sym (byte-bytes p d i l) ∙ z i l
 
--- an entry of zeros
-pub zeros-blank : (p : List ℕ) (d : ℕ) → bytesAt p d ≡ replicate ENTRY-BYTES 0 → Holds (zeros p (ENTRY-BYTES * d) ENTRY-BYTES)
-unfolding zeros
-zeros-blank p d e i l = byte-bytes p d i l ∙ ap (λ (l : List ℕ). getD l i 0) e ∙ getD-replicate {A = ℕ} ENTRY-BYTES i 0 0 l
-
 -- a message in an entry: a header of four bytes, a payload, zeros
 module _ (p : List ℕ) (d h : ℕ) (m : List ℕ) (small : h < 2 ^ 32) (fits : length m ≤ PAYLOAD-MOST) (e : bytesAt p d ≡ (le 4 h ++ m) ++ replicate (ENTRY-BYTES - length (le 4 h ++ m)) 0) where
   long : length (le 4 h ++ m) ≡ 4 + length m

@@ -10,12 +10,12 @@ use lib.ListN.{length, getD, set, take, replicate, length-map, length-replicate,
 use lib.Seq.{getD-set-same, getD-take, length-take-le, sets}
 use lib.IntN.{ℤ, pos, negsuc}
 use lib.Dec.{eqb, ltb, leb, lit<}
-use borrow.Author.Tests.{eqb-true, eqb-false, eq-eqb, le-ltb, leb-false, leb-true, lt-ltb, ltb-true, ltb-false, ne-eqb, not-true}
+use borrow.Author.Tests.{eqb-true, eqb-false, eq-eqb, le-ltb, leb-false, leb-true, lt-ltb, ltb-true, ltb-false, ne-eqb, not-true, not-false}
 use Rattle.pools.specs.Pool.{occurs, Exact}
 use Rattle.pools.specs.Slot.{slotOf}
 use Rattle.pools.proofs.SlotLaws.{age-of-id, id-pos, of-live, slot-of-id}
 use Rattle.pools.specs.Bits.{free, taken, released, WORD-BITS}
-use Rattle.pools.proofs.BoolLaws.{split, true-false, and-left, and-right, flag-eq, flag-pos}
+use Rattle.pools.proofs.BoolLaws.{split, true-false, and-left, and-right, flag-pos, neither}
 use Rattle.pools.proofs.PoolLaws.{lowest-at, lowest-first}
 use Rattle.pools.proofs.ListLaws.{occurs-place, occurs-pos}
 use Rattle.pools.proofs.FreeLaws.{free-inside, released-other, released-same, taken-other, taken-same}
@@ -35,7 +35,7 @@ use Rattle.tables.specs.Action.{push, pull, takeBit, freeBit, write, blank}
 use Rattle.tables.proofs.ViewLaws.{Sized}
 use Rattle.tables.proofs.ActionLaws.{poke-same, write-append}
 use Rattle.rules.specs.Rule.{Holds}
-use Rattle.rules.specs.Terms.{RUNNABLE, RUNS, WAITS, actorId, alive, fits, isActor, legal, runner, runnerId}
+use Rattle.rules.specs.Terms.{MESSAGE, RUNNABLE, RUNS, WAITS, actorId, alive, fits, isActor, legal, runner, runnerId}
 use Rattle.rules.specs.Sound.{actorRule, arrivalRule, arrivedRule, bitsRule, dataRule, filterRule, headRule, headerRule, idleRule, lengthRule, mailRule, onceRule, pairRule, senderRule, waitRule}
 use Rattle.rules.specs.Actions.{dataFor, delist, enlist, fill, hasRoom, hears, letGo, mailFor, post, ready, stir, unfill, unwait, wake}
 use Rattle.rules.specs.Calls.{await, badWait, dataOf, deadlineAt, dropAll, dropFirst, firstMatch, firstOf, handOver, matchAt, notAtAll, receiveBare}
@@ -44,11 +44,10 @@ use Rattle.rules.proofs.Claims.{Keeps}
 use Rattle.rules.proofs.Frame.{Beside, Wrote, beside-of, beside-over, wrote-free, wrote-none, wrote-poke, wrote-pull, wrote-sized, wrote-take, wrote-with}
 use Rattle.rules.proofs.Frames.{MAILED, beside-dropAll, wrote-await, wrote-enlist, wrote-letGo}
 use Rattle.rules.proofs.Good.{Good}
-use Rattle.rules.proofs.GuardLaws.{held, neither}
 use Rattle.rules.proofs.Groups as Part
 use Rattle.rules.proofs.Patch.{_by_also_, done, patch, patch-living}
 use Rattle.rules.proofs.ColumnLaws.{alive-begins, alive-below, alive-of, alive-same, each-set, listed-exact, listed-joins, listed-leaves, listed-room, once-joins, of-alive, once-leaves, other, set-zero}
-use Rattle.rules.proofs.LedgerLaws.{alive-age, alive-slot, runner-alive}
+use Rattle.rules.proofs.LedgerLaws.{alive-age, alive-slot, runner-alive, runs-alive, runs-at}
 use Rattle.rules.proofs.Running.{wake-keeps}
 use Rattle.rules.proofs.MessageLaws.{DataAt, Wiped, Written, bits-free, bits-take, data-same, header-same, held-apart, held-drop, held-fill, held-let, held-once, held-pass, held-used, occurs-column, occurs-length, occurs-set, wiped, written}
 
@@ -66,7 +65,7 @@ pub unfill-is : (s : State) (d : ℕ) → unfill s d ≡ unfilled s d (wipe (s P
 unfolding unfill write poke with-col freeBit wipe
 unfill-is s d = refl
 
--- which
+-- which are these
 pub wrote-unfilled : {ws : List ℕ} {s t : State} → Wrote ws s t → (d : ℕ) (q : List ℕ) → length q ≡ length (t PAYLOAD) → Wrote (PAYLOAD ∷ LENGTH ∷ SENDER ∷ DATA-FREE ∷ ws) s (unfilled t d q)
 unfolding poke with-col freeBit
 wrote-unfilled w d q e = wrote-with (wrote-poke (wrote-poke (wrote-free w DATA-FREE d) SENDER d 0) LENGTH d 0) PAYLOAD q e
@@ -230,7 +229,7 @@ module _ (k : Caps) (s : State) (g : Good k s) (a : ℕ) (there : alive (s STATE
 
 -- ---- the target is stirred
 -- to wake the target after the message joined its mailbox, or before, is the same
-pub wake-early : (s : State) (d sender n : ℕ) (q : List ℕ) (e a : ℕ) → wake (enlist (filled s d sender n q) e a d) a 1 ≡ enlist (filled (wake s a 1) d sender n q) e a d
+pub wake-early : (s : State) (d sender n : ℕ) (q : List ℕ) (e a : ℕ) → wake (enlist (filled s d sender n q) e a d) a MESSAGE ≡ enlist (filled (wake s a MESSAGE) d sender n q) e a d
 unfolding enlist push poke with-col takeBit ready unwait
 wake-early s d sender n q e a = fun-ext (λ c.
     split (eqb c QUEUED) (λ r. rw (eqb-true c QUEUED r)) (λ q₁.
@@ -258,7 +257,7 @@ unfolding post stir
 post-unheard k s a sender head payload q = rw (fill-is s (dataFor k s) sender head payload, hears-same k s a sender head payload, q)
 
 -- one that it waits for joins the mailbox of an actor that was woken
-pub post-heard : (k : Caps) (s : State) (a sender head : ℕ) (payload : List ℕ) → hears s a sender head ≡ true → post k s a sender head payload ≡ joined k (wake s a 1) a sender head payload
+pub post-heard : (k : Caps) (s : State) (a sender head : ℕ) (payload : List ℕ) → hears s a sender head ≡ true → post k s a sender head payload ≡ joined k (wake s a MESSAGE) a sender head payload
 unfolding post stir ready unwait push poke with-col
 post-heard k s a sender head payload q =
     rw (fill-is s (dataFor k s) sender head payload, hears-same k s a sender head payload, q) (wake-early s (dataFor k s) sender (length payload) (ink s (dataFor k s) head payload) (mailFor k s) a)
@@ -269,12 +268,12 @@ hears-waits s a sender head q =
     eqb-true (at s STATE a) WAITS (and-left (eqb (at s STATE a) WAITS) (fits (at s WANT-SENDER a) (at s WANT-CLASS a) (at s WANT-TAG a) sender (classOf head) (tagOf head)) q)
 
 -- who was woken waits no more, and hears nothing
-pub wake-deaf : (s : State) (a sender head : ℕ) → a < length (s STATE) → hears (wake s a 1) a sender head ≡ false
+pub wake-deaf : (s : State) (a sender head : ℕ) → a < length (s STATE) → hears (wake s a MESSAGE) a sender head ≡ false
 unfolding ready unwait push poke with-col
 wake-deaf s a sender head l = rw (getD-set-same (s STATE) a RUNNABLE 0 l)
 
 -- and is alive
-pub wake-alive : (s : State) (a : ℕ) → a < length (s STATE) → alive (wake s a 1 STATE) a ≡ true
+pub wake-alive : (s : State) (a : ℕ) → a < length (s STATE) → alive (wake s a MESSAGE STATE) a ≡ true
 unfolding ready unwait push poke with-col
 wake-alive s a l = alive-begins (s STATE) a RUNNABLE l (λ e. omega arith)
 
@@ -313,7 +312,7 @@ post-keeps k s a g there sender head payload roomy fine =
     let l = alive-below (s STATE) a there in
     split (hears s a sender head)
     (λ q. rw (post-heard k s a sender head payload q)
-    (joined-keeps k (wake s a 1) a (wake-keeps k s a 1 g (omega (arith, g .sized .words STATE (lit< tt))) (hears-waits s a sender head q) (omega arith)) (wake-alive s a l) sender head payload roomy fine (wake-deaf s a sender head l)))
+    (joined-keeps k (wake s a MESSAGE) a (wake-keeps k s a MESSAGE g (omega (arith, g .sized .words STATE (lit< tt))) (hears-waits s a sender head q) (omega arith)) (wake-alive s a l) sender head payload roomy fine (wake-deaf s a sender head l)))
     (λ q. rw (post-unheard k s a sender head payload q) (joined-keeps k s a g there sender head payload roomy fine q))
 
 -- ---- a mailbox entry leaves
@@ -581,11 +580,11 @@ module _ (k : Caps) (s : State) (g : Good k s) (a : ℕ) (runs : runner s ≡ su
     (unmet : (i : ℕ) → i < head s ARRIVED → matchAt s a sender class tag i ≡ false) where
   -- the slot is one of the slots
   slot-runs : a < k .actors
-  slot-runs = omega (arith, g .head .0 .1)
+  slot-runs = runs-at k s g a runs .0
 
   -- and runs
   state-runs : at s STATE a ≡ RUNS
-  state-runs = flag-eq (at s STATE a) RUNS (g .runs a slot-runs ∙ rw (eq-eqb (runner s) (suc a) runs))
+  state-runs = runs-at k s g a runs .1
 
   -- THE THEOREM of an actor that waits for what its mailbox does not hold
   pub await-keeps : Good k (await s a sender class tag deadline)
@@ -632,9 +631,8 @@ pub receiveBare-keeps : (sender class tag : ℕ) (wait : ℤ) (k : Caps) (s : St
 unfolding receiveBare
 receiveBare-keeps sender class tag wait k s a g runs empty right fair =
     let j = firstMatch s a sender class tag in
-    let there : alive (s STATE) a ≡ true = alive-of (s STATE) a (λ z. omega (arith, flag-eq (at s STATE a) RUNS (g .runs a (omega (arith, g .head .0 .1)) ∙ rw (eq-eqb (runner s) (suc a) runs)))) in
     split (ltb j (head s ARRIVED))
-    (λ q. rw q (handOver-keeps k s a j g there empty (ltb-true j (head s ARRIVED) q)))
+    (λ q. rw q (handOver-keeps k s a j g (runs-alive k s g a runs) empty (ltb-true j (head s ARRIVED) q)))
     (λ q. split (notAtAll wait) (λ r. rw (q, r) g)
     (λ r. rw (q, r) (await-keeps k s g a runs sender class tag (deadlineAt (head s CLOCK) wait) right (deadline-fits (head s CLOCK) wait (g .head .0 .0) fair r)
     (λ i l. lowest-first (matchAt s a sender class tag) (head s ARRIVED) i (omega (arith, ltb-false j (head s ARRIVED) q))))))
@@ -647,7 +645,7 @@ receive-keeps sender class tag wait k s g p =
     let l : a < k .actors = omega (arith, g .head .0 .1) in
     let n = neither (not (legal sender class tag)) (badWait wait) (p .1 .0) in
     receiveBare-keeps sender class tag wait k (letGo s a) a (letGo-keeps k s a g l)
-    (ap (λ (l : List ℕ). getD l 0 0) (wrote-letGo s a .cols RUNNING refl) ∙ omega arith) (letGo-empty k s a g l) (held (legal sender class tag) (n .0)) (n .1)
+    (ap (λ (l : List ℕ). getD l 0 0) (wrote-letGo s a .cols RUNNING refl) ∙ omega arith) (letGo-empty k s a g l) (not-false (legal sender class tag) (n .0)) (n .1)
 
 -- ---- notify
 -- the id of a live actor is a legal sender
@@ -675,12 +673,12 @@ pub notify-keeps : (target tag : ℕ) (payload : List ℕ) → Keeps (notify tar
 notify-keeps target tag payload k s g p =
     let bad = leb ANY-TAG tag in
     let long = ltb PAYLOAD-MOST (length payload) in
-    post-keeps k s (slotOf ACTOR-FACTOR target) g (alive-of (s STATE) (slotOf ACTOR-FACTOR target) (of-live ACTOR-FACTOR (s STATE) (s AGE) target (held (isActor s target) (p .1 .1 .0)) .0)) (runnerId s) (packed 0 0 tag) payload (held (hasRoom k s) (p .1 .1 .1 .0))
+    post-keeps k s (slotOf ACTOR-FACTOR target) g (alive-of (s STATE) (slotOf ACTOR-FACTOR target) (of-live ACTOR-FACTOR (s STATE) (s AGE) target (not-false (isActor s target) (p .1 .1 .0)) .0)) (runnerId s) (packed 0 0 tag) payload (not-false (hasRoom k s) (p .1 .1 .1 .0))
     (notify-fine k s (runner s - 1) tag payload g (runner-alive k s g (p .0)) (leb-false ANY-TAG tag (neither bad long (p .1 .0) .0)) (ltb-false PAYLOAD-MOST (length payload) (neither bad long (p .1 .0) .1)))
 
 -- ---- what a message leaves as it was
 -- the states once an actor was woken
-wake-state : (s : State) (a : ℕ) → wake s a 1 STATE ≡ set (s STATE) a RUNNABLE
+wake-state : (s : State) (a : ℕ) → wake s a MESSAGE STATE ≡ set (s STATE) a RUNNABLE
 unfolding ready unwait push poke with-col
 wake-state s a = refl
 
@@ -693,11 +691,11 @@ joined-state k s a sender head payload = refl
 pub post-alive : (k : Caps) (s : State) (a sender head : ℕ) (payload : List ℕ) → alive (post k s a sender head payload STATE) ≡ alive (s STATE)
 post-alive k s a sender head payload =
     split (hears s a sender head)
-    (λ q. rw (post-heard k s a sender head payload q) (ap alive (joined-state k (wake s a 1) a sender head payload) ∙ woken q))
+    (λ q. rw (post-heard k s a sender head payload q) (ap alive (joined-state k (wake s a MESSAGE) a sender head payload) ∙ woken q))
     (λ q. rw (post-unheard k s a sender head payload q) (ap alive (joined-state k s a sender head payload)))
   where
     -- who was woken was alive
-    woken : hears s a sender head ≡ true → alive (wake s a 1 STATE) ≡ alive (s STATE)
+    woken : hears s a sender head ≡ true → alive (wake s a MESSAGE STATE) ≡ alive (s STATE)
     woken q = ap alive (wake-state s a) ∙ alive-same (s STATE) a RUNNABLE (λ z. omega (arith, hears-waits s a sender head q)) (λ z. omega arith)
 
 -- ---- what the runtime itself sends

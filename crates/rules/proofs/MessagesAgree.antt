@@ -5,13 +5,13 @@ use native.Mathlib.Omega.{arith}
 use native.Mathlib.Numerals.{add-one}
 use mathlib.Core.Path.{_≡_, refl, sym, ap, ap₂, subst, _∙_}
 use mathlib.Core.Logic.{_⊎_, inl, inr}
-use mathlib.Core.Bool.{Bool, true, false, cond, not, _&&_, _||_, and-false, and-true}
+use mathlib.Core.Bool.{Bool, true, false, cond, not, _&&_, _||_, and-false, and-true, Bool·not-not}
 use mathlib.Core.List.{List, [], _∷_, _++_, map, map-append}
-use lib.ListN.{length, getD, set, drop, length-append, length-map, List·getD-eq-default}
+use lib.ListN.{length, getD, set, drop, length-map, List·getD-eq-default}
 use lib.Seq.{getD-set-same, getD-take, length-take-le, take-at, take-suc-set}
 use lib.IntN.{ℤ}
 use lib.Dec.{eqb, ltb, leb, lit<}
-use borrow.Author.Tests.{eqb-true, eqb-false, eq-eqb, le-ltb, leb-false, lt-ltb, ltb-true, ltb-false, ne-eqb, not-true}
+use borrow.Author.Tests.{eqb-true, eqb-false, eq-eqb, leb-false, ltb-true, ltb-false, ne-eqb, not-true, not-false}
 use Rattle.ledger.specs.Lists.{those, first, butFirst}
 use Rattle.ledger.specs.Ledger.{Ledger, Message, Timer, mail, withMail}
 use Rattle.ledger.specs.Call.Call.{op}
@@ -20,15 +20,15 @@ use Rattle.ledger.specs.Room.{datasLeft, mailsLeft}
 use Rattle.ledger.specs.Reckon.{cleared, entered, message, notice, runs, sent, tick, wanted}
 use Rattle.ledger.specs.Reckon.{letGo as release}
 use Rattle.ledger.specs.Reckon.{taken as grasped}
-use Rattle.pools.specs.Pool.{lowest, occurs, Exact}
+use Rattle.pools.specs.Pool.{occurs, Exact}
 use Rattle.pools.specs.Bits.{free}
 use Rattle.pools.specs.Lists.{keep, without}
 use Rattle.pools.specs.Slot.{idOf, slotOf, unused}
-use Rattle.pools.proofs.BoolLaws.{split, flag≤, true-false, and-left, and-right, flag-eq, same-bool}
-use Rattle.pools.proofs.PoolLaws.{lowest-at, lowest-first, lowest-le}
+use Rattle.pools.proofs.BoolLaws.{split, flag≤, true-false, and-left, and-right, same-bool, neither}
+use Rattle.pools.proofs.PoolLaws.{lowest-at, lowest-first}
 use Rattle.pools.proofs.SlotLaws.{live-is, of-live}
-use Rattle.pools.proofs.ListLaws.{keep-all-on, keep-same-on, length-keep-le, length-without, occurs-append, occurs-keep, occurs-once, occurs-place, occurs-pos, occurs-without}
-use Rattle.pools.proofs.ExactLaws.{exact-free, exact-full, exact-keep, exact-put, exact-same, exact-used}
+use Rattle.pools.proofs.ListLaws.{keep-all-on, keep-same-on, length-keep-le, length-without, occurs-append, occurs-once, occurs-place, occurs-pos, occurs-without}
+use Rattle.pools.proofs.ExactLaws.{exact-keep, exact-put, exact-same, exact-used}
 use Rattle.records.specs.Header.{classOf, packed, tagOf}
 use Rattle.records.specs.Bytes.{le}
 use Rattle.records.specs.Records.{exitBytes, tickBytes}
@@ -38,7 +38,7 @@ use Rattle.tables.specs.Columns.{AGE, ARRIVAL, ARRIVED, CLOCK, DATA-FREE, HAND,
 use Rattle.tables.specs.Limits.{ACTOR-FACTOR, ANY-TAG, PAYLOAD-MOST}
 use Rattle.tables.specs.State.{State, at, head, poke, with-col}
 use Rattle.tables.specs.Action.{push, pull, takeBit, freeBit}
-use Rattle.rules.specs.Terms.{RUNS, WAITS, actorId, alive, fits, header, isActor, runner, runnerId, wants}
+use Rattle.rules.specs.Terms.{MESSAGE, WAITS, actorId, alive, fits, header, isActor, runner, runnerId, wants}
 use Rattle.rules.specs.Agrees.{Agrees, arrivals, boxAt, handAt, isWorn, messageOf, usedData, usedMail}
 use Rattle.rules.specs.Actions.{dataFor, delist, enlist, hasRoom, hears, letGo, mailFor, post, ready, unwait, wake}
 use Rattle.rules.specs.Calls.{await, dataOf, deadlineAt, dropAll, dropFirst, firstMatch, firstOf, handOver, matchAt, notAtAll, receiveBare}
@@ -49,13 +49,13 @@ use Rattle.rules.proofs.Claims.{Agreed, Tested}
 use Rattle.rules.proofs.Frame.{Wrote, wrote-none, wrote-poke, wrote-still, wrote-within}
 use Rattle.rules.proofs.Frames.{MAILED, beside-dropFirst, wrote-await, wrote-enlist, wrote-letGo}
 use Rattle.rules.proofs.Good.{Good}
-use Rattle.rules.proofs.GuardLaws.{held, neither}
 use Rattle.rules.proofs.ColumnLaws.{alive-below, alive-of, alive-same, each-set, listed-room, other, set-zero, worn-same}
-use Rattle.rules.proofs.LedgerLaws.{idle-same, known-same, runner-alive, running-is, but-map, first-at, first-map, id-eqb, map-same-on, palm-owner, occurs-later, those-keep, those-map}
+use Rattle.rules.proofs.LedgerLaws.{idle-same, known-same, runner-alive, running-is, but-map, first-at, first-map, id-eqb, map-same-on, palm-owner, occurs-later, those-keep, those-map, message-room, runs-alive, runs-at}
 use Rattle.rules.proofs.MessageLaws.{Wiped, Written, bytesAt, header-same, held-apart, held-once, held-palm, held-used, occurs-column, text-same}
 use Rattle.rules.proofs.Messages.{Fine, boxes-exact, clear, data-below, data-free, dataOf-below, dataOf-is, delist-wrote, drop-good, drop-none, dropFirst-is, dropFirst-keeps, dropFirst-none, filled, handOver-keeps, hears-waits, ink, ink-is, joined, joined-keeps, letGo-empty, let-good, letGo-arrived, letGo-keeps, mail-below, mail-column, mail-free, mailOf, mailOf-below, notify-fine, post-heard, post-unheard, unfill-is, unfilled, wake-alive, wake-deaf, wipe, wipe-is, wrote-filled, wrote-unfilled}
 use Rattle.rules.proofs.Running.{wake-keeps}
 use Rattle.rules.proofs.RunningAgrees.{wake-agrees}
+use Rattle.rules.proofs.TieLaws.{keep-in}
 
 -- ---- the data entries of queued messages and of hands are those in use, each once
 module _ (k : Caps) (s : State) (g : Good k s) (palms : List ℕ) (x : Exact palms (λ a. not (unused (s HAND) a))) where
@@ -100,12 +100,6 @@ agrees-mail k l s t g r w boxes hands palms b x h =
 -- no data entry is in two hands
 palm-once : (k : Caps) (s : State) → Good k s → (d : ℕ) → d < k .datas → (a b : ℕ) → a < length (s HAND) → b < length (s HAND) → at s HAND a ≡ suc d → at s HAND b ≡ suc d → a ≡ b
 palm-once k s g d l a b m n p q = occurs-once (suc d) (s HAND) (omega (arith, g .held d l, flag≤ (not (free (s DATA-FREE) d)))) a b m n p q
-
--- what stands among those that pass, passes, and stands in the list
-keep-in : (p : ℕ → Bool) (es : List ℕ) (b : ℕ) → 0 < occurs b (keep p es) → (p b ≡ true) × (0 < occurs b es)
-keep-in p es b o =
-    let e = occurs-keep b p es in
-    split (p b) (λ q. (q, omega (arith, rw q at e))) (λ q. absurd (omega (arith, rw q at e)))
 
 -- a message of which nothing changed
 message-same : (s t : State) (to c : ℕ) → at t SENDER c ≡ at s SENDER c → at t LENGTH c ≡ at s LENGTH c → bytesAt (t PAYLOAD) c ≡ bytesAt (s PAYLOAD) c → at s LENGTH c ≤ PAYLOAD-MOST → messageOf s to c ≡ messageOf t to c
@@ -192,8 +186,8 @@ module _ (k : Caps) (s : State) (l : Ledger) (g : Good k s) (r : Agrees k l s) (
         (λ v. rw (other (s HAND) a 0 b v, v) (sym (and-true (not (unused (s HAND) b)))))))
         (hands-left ∙ map-same-on (handAt s) (handAt t) (keep (λ b. not (eqb b a)) (r .mail .palms)) (λ b o.
         let p = keep-in (λ b. not (eqb b a)) (r .mail .palms) b o in
-        let f = palm-full s (r .mail .palms) (r .mail .allPalms) b (p .1) in
-        let v : eqb b a ≡ false = not-true (eqb b a) (p .0) in
+        let f = palm-full s (r .mail .palms) (r .mail .allPalms) b (p .0) in
+        let v : eqb b a ≡ false = not-true (eqb b a) (p .1) in
         let c : eqb (at s HAND b - 1) d ≡ false = ne-eqb (at s HAND b - 1) d (λ z. eqb-false b a v (palm-once k s g d below b a (palm-in k s g b f) (palm-in k s g a full) (omega (arith, palm-data k s g b f .0)) h)) in
         rw (other (s HAND) a 0 b v) (message-same s t (actorId s b) (at s HAND b - 1) (other (s SENDER) d 0 (at s HAND b - 1) c) (other (s LENGTH) d 0 (at s HAND b - 1) c) (w .apart (at s HAND b - 1) c) (palm-long k s g b f))))
 
@@ -288,7 +282,7 @@ post-agrees k s l a g r there sender head payload roomy fine =
     split (hears s a sender head)
     (λ q. let u = hears-waits s a sender head q in
     rw (post-heard k s a sender head payload q)
-    (joined-agrees k (wake s a 1) l a (wake-keeps k s a 1 g m u (omega arith)) (wake-agrees k s l a 1 g r m u (omega arith)) (wake-alive s a n) sender head payload roomy fine (wake-deaf s a sender head n)))
+    (joined-agrees k (wake s a MESSAGE) l a (wake-keeps k s a MESSAGE g m u (omega arith)) (wake-agrees k s l a MESSAGE r u) (wake-alive s a n) sender head payload roomy fine (wake-deaf s a sender head n)))
     (λ q. rw (post-unheard k s a sender head payload q) (joined-agrees k s l a g r there sender head payload roomy fine q))
 
 -- ---- notify
@@ -296,67 +290,19 @@ post-agrees k s l a g r there sender head payload roomy fine =
 same-message : {to to′ sender sender′ class class′ tag tag′ : ℕ} (payload : List ℕ) → to ≡ to′ → sender ≡ sender′ → class ≡ class′ → tag ≡ tag′ → message to sender class tag payload ≡ message to′ sender′ class′ tag′ payload
 same-message payload a b c d = rw (a, b, c, d)
 
--- a test and its opposite's opposite
-not-not : (b : Bool) → not (not b) ≡ b
-not-not true = refl
-not-not false = refl
-
 -- THE THEOREM of notify, and the reckoning
 pub notify-agrees : (target tag : ℕ) (payload : List ℕ) → Agreed (notify target tag payload)
 unfolding entered
 notify-agrees target tag payload k s l g r p =
     let a = slotOf ACTOR-FACTOR target in
     let n = neither (leb ANY-TAG tag) (ltb PAYLOAD-MOST (length payload)) (p .1 .0) in
-    let e = held (isActor s target) (p .1 .1 .0) in
+    let e = not-false (isActor s target) (p .1 .1 .0) in
     let t = leb-false ANY-TAG tag (n .0) in
     let m : message (actorId s a) (runnerId s) (classOf (packed 0 0 tag)) (tagOf (packed 0 0 tag)) payload ≡ message target (l .people .running) 0 tag payload =
     same-message payload (sym (live-is ACTOR-FACTOR (s STATE) (s AGE) target (lit< tt) e)) (sym (running-is k s g l r (p .0))) (class-packed 0 0 tag (omega arith) (omega arith)) (tag-packed 0 0 tag (omega arith) (omega arith)) in
     subst (λ (m : Message). Agrees k (sent (m ∷ []) l) (post k s a (runnerId s) (packed 0 0 tag) payload)) m
-    (post-agrees k s l a g r (alive-of (s STATE) a (of-live ACTOR-FACTOR (s STATE) (s AGE) target e .0)) (runnerId s) (packed 0 0 tag) payload (held (hasRoom k s) (p .1 .1 .1 .0))
+    (post-agrees k s l a g r (alive-of (s STATE) a (of-live ACTOR-FACTOR (s STATE) (s AGE) target e .0)) (runnerId s) (packed 0 0 tag) payload (not-false (hasRoom k s) (p .1 .1 .1 .0))
     (notify-fine k s (runner s - 1) tag payload g (runner-alive k s g (p .0)) t (ltb-false PAYLOAD-MOST (length payload) (n .1))))
-
--- ---- room
--- a pool has a free entry exactly where fewer entries are in use than it has
-left-same : (u f : ℕ → Bool) (n : ℕ) (es : List ℕ) → ((e : ℕ) → n ≤ e → u e ≡ false) → Exact es u → ((e : ℕ) → e < n → f e ≡ not (u e)) → ltb (lowest f n) n ≡ not (eqb (n - length es) 0)
-left-same u f n es past x rest =
-    let full = exact-full u f n es past x rest in
-    let all = exact-free u f n es past x rest in
-    split (ltb (lowest f n) n)
-    (λ q. rw (q, ne-eqb (n - length es) 0 (λ z. omega (arith, ltb-true (lowest f n) n q, full .1 (omega arith)))))
-    (λ q. rw (q, eq-eqb (n - length es) 0 (omega (arith, full .0 (omega (arith, ltb-false (lowest f n) n q, lowest-le f n))))))
-
-module _ (k : Caps) (s : State) (l : Ledger) (g : Good k s) (r : Agrees k l s) where
-  -- mailbox entries
-  mails-same : ltb (mailFor k s) (k .mails) ≡ not (eqb (mailsLeft l) 0)
-  mails-same =
-      let n : length (l .mail .boxes) ≡ length (arrivals s) = ap length (r .mail .boxes) ∙ length-map (arrivals s) (boxAt s) in
-      rw (r .sizes, n) (left-same (usedMail k s) (free (s MAIL-FREE)) (k .mails) (arrivals s) (λ e h. rw (le-ltb e (k .mails) h)) (r .mail .allBoxes) (λ e h. rw (lt-ltb e (k .mails) h) (sym (not-not (free (s MAIL-FREE) e)))))
-
-  -- data entries
-  datas-same : ltb (dataFor k s) (k .datas) ≡ not (eqb (datasLeft l) 0)
-  datas-same =
-      let es : List ℕ = map (λ e. at s MAIL-DATA e - 1) (arrivals s) ++ map (λ a. at s HAND a - 1) (r .mail .palms) in
-      let n : length (l .mail .boxes) + length (l .mail .hands) ≡ length (map (λ e. at s MAIL-DATA e - 1) (arrivals s) ++ map (λ a. at s HAND a - 1) (r .mail .palms)) =
-      omega (
-        arith,
-        ap length (r .mail .boxes),
-        length-map (arrivals s) (boxAt s),
-        ap length (r .mail .hands),
-        length-map (r .mail .palms) (handAt s),
-        length-append (map (λ e. at s MAIL-DATA e - 1) (arrivals s)) (map (λ a. at s HAND a - 1) (r .mail .palms)),
-        length-map (arrivals s) (λ e. at s MAIL-DATA e - 1),
-        length-map (r .mail .palms) (λ a. at s HAND a - 1),
-      ) in
-      rw (r .sizes, n) (left-same (usedData k s) (free (s DATA-FREE)) (k .datas) (map (λ e. at s MAIL-DATA e - 1) (arrivals s) ++ map (λ a. at s HAND a - 1) (r .mail .palms)) (λ e h. rw (le-ltb e (k .datas) h)) (r .mail .allDatas) (λ e h. rw (lt-ltb e (k .datas) h) (sym (not-not (free (s DATA-FREE) e)))))
-
-  -- there is room for a message exactly where the reckoning has something left of both pools
-  pub room-same : hasRoom k s ≡ not (eqb (mailsLeft l) 0 || eqb (datasLeft l) 0)
-  room-same = rw (mails-same, datas-same) (both (eqb (mailsLeft l) 0) (eqb (datasLeft l) 0))
-    where
-      -- neither of two
-      both : (a b : Bool) → not a && not b ≡ not (a || b)
-      both true b = refl
-      both false b = refl
 
 -- its tests are the reckoning's
 pub notify-same : (target tag : ℕ) (payload : List ℕ) → Tested (notify target tag payload)
@@ -366,7 +312,7 @@ notify-same target tag payload k s l g r = (
   λ h. (
     refl,
     refl,
-    λ q. (ap not (known-same k s g l r target), refl, λ u. (ap not (room-same k s l g r) ∙ not-not (eqb (mailsLeft l) 0 || eqb (datasLeft l) 0), refl, λ z. record {})),
+    λ q. (ap not (known-same k s g l r target), refl, λ u. (ap not (message-room k s g l r) ∙ Bool·not-not (eqb (mailsLeft l) 0 || eqb (datasLeft l) 0), refl, λ z. record {})),
   ),
 )
 
@@ -584,7 +530,6 @@ boxless id l = withMail l (mail (those (λ m. not (eqb (m .to) id)) (l .mail .bo
 -- THE THEOREM of a mailbox that is freed
 pub dropAll-agrees : (k : Caps) (s : State) (l : Ledger) (a : ℕ) → Good k s → Agrees k l s → alive (s STATE) a ≡ true → Agrees k (boxless (actorId s a) l) (dropAll (at s ARRIVED 0) s a)
 dropAll-agrees k s l a g r there =
-    let p = toId (actorId s a) in
     let t = length-take-le (at s ARRIVED 0) (s ARRIVAL) (omega (arith, g .head .1 .1, g .sized .words ARRIVAL (lit< tt))) in
     let n : length (those (toId (actorId s a)) (l .mail .boxes)) ≤ at s ARRIVED 0 =
     omega (arith, t, ap length (those-keep (toId (actorId s a)) (l .mail .boxes)), length-keep-le (toId (actorId s a)) (l .mail .boxes), ap length (r .mail .boxes), length-map (arrivals s) (boxAt s)) in
@@ -596,7 +541,7 @@ dropAll-agrees k s l a g r there =
 pub await-agrees : (k : Caps) (s : State) (l : Ledger) (a sender class tag deadline : ℕ) → Good k s → Agrees k l s → runner s ≡ suc a → Agrees k (runs 0 l) (await s a sender class tag deadline)
 unfolding await poke with-col
 await-agrees k s l a sender class tag deadline g r run =
-    let u : at s STATE a ≡ RUNS = flag-eq (at s STATE a) RUNS (g .runs a (omega (arith, g .head .0 .1)) ∙ rw (eq-eqb (runner s) (suc a) run)) in
+    let u = runs-at k s g a run .1 in
     let x : getD (s STATE) a 0 ≡ 0 → ⊥ = λ e. omega (arith, u) in
     let y : WAITS ≡ 0 → ⊥ = λ e. omega arith in
     agrees-people (wrote-await (wrote-none s) a sender class tag deadline) r _ refl (record {
@@ -622,7 +567,7 @@ receiveBare-agrees sender class tag wait k s l a g r run empty =
     let j = firstMatch s a sender class tag in
     let n : eqb (runner s) 0 ≡ false = ne-eqb (runner s) 0 (λ z. omega arith) in
     let e : runner s - 1 ≡ a = omega arith in
-    let there : alive (s STATE) a ≡ true = rw e at (runner-alive k s g n) in
+    let there = runs-alive k s g a run in
     let who : l .people .running ≡ actorId s a = running-is k s g l r n ∙ ap (actorId s) e in
     split (ltb j (head s ARRIVED))
     (λ q. let h = ltb-true j (head s ARRIVED) q in

@@ -33,7 +33,6 @@ use Rattle.rules.proofs.Frame.{wrote-none, wrote-poke, wrote-within}
 use Rattle.rules.proofs.Groups as Part
 use Rattle.rules.proofs.Patch.{_by_also_, done, patch}
 use Rattle.rules.proofs.Frames.{TIMED}
-use Rattle.rules.proofs.Ties.{disarm-keeps}
 use Rattle.rules.proofs.TiesAgree.{clock-used, disarm-agree, timers-agree}
 
 -- ---- soundness
@@ -46,13 +45,6 @@ redue-keeps k s i t g l u h =
     (rw (getD-set-same (s DUE) i t 0 (omega (arith, g .sized .words DUE (lit< tt))))
     (g .timers i l .0, ((λ z. absurd (u z)), (λ z. (g .timers i l .1 .1 z .0, (h, g .timers i l .1 .1 z .1 .1))))))
     (λ q. rw (other (s DUE) i t j q) (g .timers j m))) also done) refl
-
--- a timer that fires
-pub rearm-keeps : (k : Caps) (s : State) (i : ℕ) → Good k s → i < k .timers → (at s TIMER-OWNER i ≡ 0 → ⊥) → Good k (rearm s i)
-unfolding rearm
-rearm-keeps k s i g l u =
-    split (eqb (at s INTERVAL i) 0) (λ q. rw q (disarm-keeps k s i g l))
-    (λ q. rw q (redue-keeps k s i (head s CLOCK + at s INTERVAL i) g l u (omega (arith, g .head .0 .0, g .timers i l .1 .1 u .1 .1))))
 
 -- ---- the timer that fires
 module _ (k : Caps) (s : State) (i : ℕ) (is : i ≡ earliest s TIMER-OWNER DUE (head s CLOCK) (k .timers)) where
@@ -81,6 +73,7 @@ module _ (k : Caps) (l : Ledger) (s : State) (z : Sized k s) (v : InRange k) (a 
       ∙ map-same-on (λ e. cond (eqb (timerId s e) (timerId s i)) (timer (timerId s e) (timerAt s e .owner) (c + at s INTERVAL e) (at s INTERVAL e)) (timerAt s e)) (timerAt (poke s DUE i (c + at s INTERVAL i))) (a .time .clocks) same))
       (a .time .wornClocks)
     where
+      -- each timer of the list: the one that is due again, and the others
       same : (e : ℕ) → 0 < occurs e (a .time .clocks) → cond (eqb (timerId s e) (timerId s i)) (timer (timerId s e) (timerAt s e .owner) (c + at s INTERVAL e) (at s INTERVAL e)) (timerAt s e) ≡ timerAt (poke s DUE i (c + at s INTERVAL i)) e
       same e o =
           rw (id-eqb TIMER-FACTOR (s TIMER-AGE) e i (omega (arith, v .fewTimers, clock-used k l s s z v a e o .1)) (omega (arith, v .fewTimers)))

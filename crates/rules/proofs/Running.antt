@@ -8,7 +8,7 @@ use mir.Val.{boolByte}
 use lib.ListN.{length, getD, set, take}
 use lib.Seq.{getD-set-same, getD-set-other, getD-take, length-take-le}
 use lib.Dec.{T, eqb, ltb, lit<}
-use borrow.Author.Tests.{eqb-true, eqb-false, eq-eqb, ne-eqb, ltb-true, ltb-false}
+use borrow.Author.Tests.{eqb-true, eqb-false, eq-eqb, ne-eqb, ltb-true, ltb-false, not-false}
 use Rattle.pools.proofs.BoolLaws.{split, flag-pos}
 use Rattle.pools.specs.Bits.{free}
 use Rattle.pools.specs.Slot.{ageOf, slotOf, usable}
@@ -18,11 +18,11 @@ use Rattle.pools.proofs.SlotLaws.{of-usable}
 use Rattle.ledger.specs.Call.Op.{spawn, next, yield}
 use Rattle.tables.specs.declared.Caps.{Caps}
 use Rattle.tables.specs.Columns.{AGE, DEADLINE, MAIL-DATA, MAIL-FREE, MAIL-OWNER, PRIORITY, QUEUE, QUEUED, REASON, REST, RUNNING, STATE, WANT-CLASS, WANT-SENDER, WANT-TAG}
-use Rattle.tables.specs.Limits.{ACTOR-FACTOR, LEVELS, OLDEST}
+use Rattle.tables.specs.Limits.{ACTOR-FACTOR, LAST-LEVEL, LEVELS, OLDEST}
 use Rattle.tables.specs.State.{State, at, head, with-col, poke, size}
 use Rattle.tables.specs.Action.{push, pull}
 use Rattle.rules.specs.Rule.{both, eq, Holds, imp, is}
-use Rattle.rules.specs.Terms.{FREE, RUNNABLE, RUNS, WAITS, alive, awaits, runner}
+use Rattle.rules.specs.Terms.{FREE, RUNNABLE, RUNS, TIMEOUT, WAITS, alive, awaits, runner}
 use Rattle.rules.specs.Sound.{actorRule, endsRule, idleRule, pairRule, runRule, senderRule, waitRule}
 use Rattle.rules.specs.Actions.{halt, ready, unwait, wake}
 use Rattle.rules.specs.Calls.{firstHead, run, slotFor}
@@ -30,7 +30,6 @@ use Rattle.rules.proofs.Claims.{Keeps}
 use Rattle.rules.proofs.Frame.{wrote-none, wrote-poke}
 use Rattle.rules.proofs.Frames.{wrote-ready, wrote-run, wrote-unwait}
 use Rattle.rules.proofs.Good.{Good}
-use Rattle.rules.proofs.GuardLaws.{held}
 use Rattle.rules.proofs.Groups as Part
 use Rattle.rules.proofs.Patch.{_by_also_, done, patch, patch-living}
 use Rattle.rules.proofs.ColumnLaws.{Listed, Once, alive-grows, alive-same, each-set, listed-at, listed-joins, listed-leaves, listed-room, once-joins, once-leaves, other, set-zero}
@@ -69,7 +68,7 @@ module _ (k : Caps) (s : State) (g : Good k s) where
       (λ q. g .filters e h (p .0, rw (other (s STATE) a v (at s MAIL-OWNER e - 1) q) at (p .1)))
 
 -- "A waiting actor becomes runnable": sound as before
-pub wake-keeps : (k : Caps) (s : State) (a reason : ℕ) → Good k s → a < k .actors → at s STATE a ≡ WAITS → reason ≤ 2 → Good k (wake s a reason)
+pub wake-keeps : (k : Caps) (s : State) (a reason : ℕ) → Good k s → a < k .actors → at s STATE a ≡ WAITS → reason ≤ TIMEOUT → Good k (wake s a reason)
 unfolding ready unwait push poke with-col pairRule
 wake-keeps k s a reason g l u r =
     let m = queue-room k s g a l (rw u) in
@@ -120,7 +119,7 @@ sender-later ages a class sender l h = (
 )
 
 -- a slot whose use begins, at the tail of its level
-born-keeps : (k : Caps) (s : State) (a priority : ℕ) → Good k s → a < k .actors → at s STATE a ≡ FREE → at s AGE a < OLDEST → priority ≤ 3
+born-keeps : (k : Caps) (s : State) (a priority : ℕ) → Good k s → a < k .actors → at s STATE a ≡ FREE → at s AGE a < OLDEST → priority ≤ LAST-LEVEL
     → Good k (ready (poke (poke s AGE a (at s AGE a + 1)) PRIORITY a priority) a 0)
 unfolding ready push poke with-col pairRule
 born-keeps k s a priority g l u o r =
@@ -159,9 +158,9 @@ slot-found k s l = of-usable OLDEST (s STATE) (s AGE) (slotFor k s) (lowest-at (
 -- "Spawn takes a priority and puts the actor at the tail of its level": sound as before
 pub spawn-keeps : (priority : ℕ) → Keeps (spawn priority)
 spawn-keeps priority k s g p =
-    let l = ltb-true (slotFor k s) (k .actors) (held (ltb (slotFor k s) (k .actors)) (p .1 .0)) in
+    let l = ltb-true (slotFor k s) (k .actors) (not-false (ltb (slotFor k s) (k .actors)) (p .1 .0)) in
     let f = slot-found k s l in
-    born-keeps k s (slotFor k s) priority g l (f .0) (f .1) (ltb-false 3 priority (p .0))
+    born-keeps k s (slotFor k s) priority g l (f .0) (f .1) (ltb-false LAST-LEVEL priority (p .0))
 
 -- ---- yield
 -- the running actor of slot a, at the tail of its level
@@ -235,5 +234,5 @@ run-keeps k s a j g e h c =
 pub next-keeps : Keeps next
 next-keeps k s g p =
     split (ltb (firstHead s LEVELS) (head s QUEUED))
-    (λ q. rw q (run-keeps k s (at s QUEUE (firstHead s LEVELS)) (firstHead s LEVELS) g refl (ltb-true (firstHead s LEVELS) (head s QUEUED) q) (eqb-true (runner s) 0 (held (eqb (runner s) 0) (p .0)))))
+    (λ q. rw q (run-keeps k s (at s QUEUE (firstHead s LEVELS)) (firstHead s LEVELS) g refl (ltb-true (firstHead s LEVELS) (head s QUEUED) q) (eqb-true (runner s) 0 (not-false (eqb (runner s) 0) (p .0)))))
     (λ q. rw q g)

@@ -1,5 +1,5 @@
 -- The calls that say who runs, and the reckoning. Assumes nothing.
-use Prim.Native.Nat.{ℕ, suc, _+_, _-_, _≤_, _<_}
+use Prim.Native.Nat.{ℕ, suc, _+_, _-_, _<_}
 use native.Mathlib.Omega.{arith}
 use mathlib.Core.Path.{_≡_, refl, sym, ap, ap₂, _∙_}
 use mathlib.Core.Bool.{true, false, not}
@@ -7,7 +7,7 @@ use mathlib.Core.List.{List, [], _∷_, _++_, map, map-append}
 use lib.ListN.{length, getD, set}
 use lib.Seq.{getD-set-same, getD-set-other}
 use lib.Dec.{eqb, ltb, lit<}
-use borrow.Author.Tests.{eqb-true, ne-eqb, ltb-true, not-true}
+use borrow.Author.Tests.{eqb-true, ne-eqb, ltb-true, not-true, not-false}
 use Rattle.ledger.specs.Call.Op.{next, shown, spawn, yield}
 use Rattle.ledger.specs.Ledger.{Actor, Ledger, Message, people, withPeople}
 use Rattle.ledger.specs.Lists.{first}
@@ -31,7 +31,6 @@ use Rattle.rules.proofs.Claims.{Agreed, Tested}
 use Rattle.rules.proofs.Frame.{wrote-none, wrote-poke}
 use Rattle.rules.proofs.Frames.{wrote-ready, wrote-run, wrote-unwait}
 use Rattle.rules.proofs.Good.{Good}
-use Rattle.rules.proofs.GuardLaws.{held}
 use Rattle.rules.proofs.ColumnLaws.{alive-begins, alive-free, alive-other, alive-same, of-alive, other, set-zero, worn-same}
 use Rattle.rules.proofs.LedgerLaws.{actors-left, bond-ends, box-owner, clock-owner, datas-left, eye-ends, first-map, first-none, first-only, full-same, hand-same, id-eqb, id-not-zero, idle-same, links-left, mails-left, map-same-on, monitors-left, palm-owner, runner-alive, runner-runs, running-is, timers-left}
 use Rattle.rules.proofs.Running.{queue-at, slot-found}
@@ -55,9 +54,9 @@ unfolding poke with-col
 halt-agrees k s l r = agrees-people (wrote-poke (wrote-none s) RUNNING 0 0) r _ refl (record { running = rw (set-zero (s RUNNING) 0); slots = r .people .slots; allSlots = r .people .allSlots; live = r .people .live; wornSlots = r .people .wornSlots })
 
 -- "A waiting actor becomes runnable": the reckoning is as before
-pub wake-agrees : (k : Caps) (s : State) (l : Ledger) (a reason : ℕ) → Good k s → Agrees k l s → a < k .actors → at s STATE a ≡ WAITS → reason ≤ 2 → Agrees k l (wake s a reason)
+pub wake-agrees : (k : Caps) (s : State) (l : Ledger) (a reason : ℕ) → Agrees k l s → at s STATE a ≡ WAITS → Agrees k l (wake s a reason)
 unfolding unwait poke with-col
-wake-agrees k s l a reason g r h u w = ready-agrees k (unwait s a) l a reason (λ e. omega (arith, u)) (unwait-agrees k s l a r)
+wake-agrees k s l a reason r u = ready-agrees k (unwait s a) l a reason (λ e. omega (arith, u)) (unwait-agrees k s l a r)
 
 -- ---- spawn
 module _ (k : Caps) (s : State) (l : Ledger) (g : Good k s) (r : Agrees k l s) (a priority : ℕ) (h : a < k .actors) (u : at s STATE a ≡ FREE) (o : at s AGE a < OLDEST) where
@@ -126,7 +125,7 @@ module _ (k : Caps) (s : State) (l : Ledger) (g : Good k s) (r : Agrees k l s) (
 pub spawn-agrees : (priority : ℕ) → Agreed (spawn priority)
 unfolding entered
 spawn-agrees priority k s l g r p =
-    let h = ltb-true (slotFor k s) (k .actors) (held (ltb (slotFor k s) (k .actors)) (p .1 .0)) in
+    let h = ltb-true (slotFor k s) (k .actors) (not-false (ltb (slotFor k s) (k .actors)) (p .1 .0)) in
     let f = slot-found k s h in
     born-agrees k s l g r (slotFor k s) priority h (f .0) (f .1)
 
@@ -139,7 +138,7 @@ spawn-same priority k s l g r = (refl, refl, λ q. (full-same (usable OLDEST (s 
 pub yield-same : Tested yield
 yield-same k s l g r = (idle-same k s g l r, refl, λ z. record {})
 
--- and so is who runs after it
+-- and so is who runs after it: nobody
 pub yield-agrees : Agreed yield
 unfolding entered poke with-col
 yield-agrees k s l g r p = ready-agrees k (halt s) (runs 0 l) (runner s - 1) 0 (λ e. omega (arith, runner-runs k s g (p .0) .1)) (halt-agrees k s l r)
@@ -149,6 +148,7 @@ yield-agrees k s l g r p = ready-agrees k (halt s) (runs 0 l) (runner s - 1) 0 (
 pub next-same : Tested next
 next-same k s l g r = (ap not (idle-same k s g l r), refl, λ z. record {})
 
+-- slot a, the j-th of the queue, runs
 run-agrees : (k : Caps) (s : State) (l : Ledger) (a j : ℕ) → j < head s QUEUED → Good k s → (at s STATE a ≡ 0 → ⊥) → Agrees k l s → Agrees k (runs (actorId s a) l) (run s a j)
 unfolding run pull poke with-col
 run-agrees k s l a j h g u r =

@@ -12,7 +12,6 @@ use Rattle.ledger.specs.Call.Answer.{ended}
 use Rattle.ledger.specs.Call.Call.{start, op}
 use Rattle.ledger.specs.Call.Op.{notify, exit}
 use Rattle.ledger.specs.Ledger.{Ledger}
-use Rattle.ledger.specs.Lists.{some}
 use Rattle.ledger.specs.Reckon.{entered, reckon}
 use Rattle.ledger.specs.Room.{known}
 use Rattle.pools.proofs.BoolLaws.{and-left, and-right, split, true-false}
@@ -25,8 +24,8 @@ use Rattle.tables.proofs.ViewLaws.{join-view}
 use Rattle.rules.specs.Terms.{actorId, alive, isActor, runner, runnerId}
 use Rattle.rules.specs.Rule.{Holds}
 use Rattle.rules.specs.Sound.{soundRule, viewOf}
-use Rattle.rules.specs.Calls.{exitEntry, refusal, ruled}
-use Rattle.rules.specs.Run.{entry, step}
+use Rattle.rules.specs.Calls.{entry, exitEntry, refusal, ruled}
+use Rattle.rules.specs.Run.{step}
 use Rattle.rules.specs.Story.{Aims, Begun, Meets, Story, begins, capsFrom, startless}
 use Rattle.rules.specs.Agrees.{Agrees, arrivals, boxAt, handAt, linkAt, monitorAt, timerAt}
 use Rattle.rules.proofs.ColumnLaws.{of-alive}
@@ -42,23 +41,10 @@ use Rattle.rules.proofs.StoryAnswers.{line-answer}
 use Rattle.rules.proofs.Table.{step-agrees, step-keeps}
 
 -- ---- what the reckoning says of an id that is nobody's
--- nothing is aimed at it: Departed's `Nothing`, whoever runs meanwhile
+-- nothing is left of it, and it does not run
 pub record Unaimed (id : ℕ) (l : Ledger) : Type 0 where
-  -- no message is for it, in a mailbox or in a hand
-  pub boxes : some (λ m. eqb (m .to) id) (l .mail .boxes) ≡ false
-  pub hands : some (λ m. eqb (m .to) id) (l .mail .hands) ≡ false
-  -- no timer is its own
-  pub timers : some (λ t. eqb (t .owner) id) (l .time .timers) ≡ false
-  -- it is at no end of a link or a monitor
-  pub links : some (λ p. eqb (p .one) id || eqb (p .two) id) (l .ties .links) ≡ false
-  pub monitors : some (λ m. eqb (m .target) id || eqb (m .watcher) id) (l .ties .monitors) ≡ false
-  -- it is no live actor, and does not run
-  pub live : known l id ≡ false
+  pub nothing : Nothing id l
   pub rests : l .people .running ≡ id → ⊥
-
--- with nobody running it is Departed's
-pub unaimed-nothing : (id : ℕ) (l : Ledger) → Unaimed id l → l .people .running ≡ 0 → Nothing id l
-unaimed-nothing id l u e = record { boxes = u .boxes; hands = u .hands; timers = u .timers; links = u .links; monitors = u .monitors; live = u .live; idle = e }
 
 module _ (k : Caps) (s : State) (l : Ledger) (g : Good k s) (r : Agrees k l s) (id : ℕ) where
   -- a live slot is another actor's
@@ -68,19 +54,21 @@ module _ (k : Caps) (s : State) (l : Ledger) (g : Good k s) (r : Agrees k l s) (
   -- THE LAW: at an id that is not that of a live actor nothing is aimed, since all that is in use is a live actor's
   pub nothing-aimed : (id ≡ 0 → ⊥) → known l id ≡ false → Unaimed id l
   nothing-aimed z n = record {
-    boxes = rw (r .mail .boxes, some-map (λ m. eqb (m .to) id) (boxAt s) (arrivals s))
-        (some-no (λ e. eqb (actorId s (at s MAIL-OWNER e - 1)) id) (arrivals s) (λ e o. another n _ (box-owner k s g l r e o)));
-    hands = rw (r .mail .hands, some-map (λ m. eqb (m .to) id) (handAt s) (r .mail .palms))
-        (some-no (λ a. eqb (actorId s a) id) (r .mail .palms) (λ a o. another n a (palm-owner k s g l r a o)));
-    timers = rw (r .time .timers, some-map (λ t. eqb (t .owner) id) (timerAt s) (r .time .clocks))
-        (some-no (λ i. eqb (actorId s (at s TIMER-OWNER i - 1)) id) (r .time .clocks) (λ i o. another n _ (clock-owner k s g l r i o)));
-    links = rw (r .links .links, some-map (λ p. eqb (p .one) id || eqb (p .two) id) (linkAt s) (r .links .bonds))
-        (some-no (λ e. eqb (actorId s (at s LINK-ONE e - 1)) id || eqb (actorId s (at s LINK-TWO e - 1)) id) (r .links .bonds) (λ e o.
-        let b = bond-ends k s g l r e o in rw (another n _ (b .0), another n _ (b .1))));
-    monitors = rw (r .monitors .monitors, some-map (λ m. eqb (m .target) id || eqb (m .watcher) id) (monitorAt s) (r .monitors .eyes))
-        (some-no (λ i. eqb (actorId s (at s WATCHED i - 1)) id || eqb (actorId s (at s WATCHER i - 1)) id) (r .monitors .eyes) (λ i o.
-        let b = eye-ends k s g l r i o in rw (another n _ (b .1), another n _ (b .0))));
-    live = n;
+    nothing = record {
+      boxes = rw (r .mail .boxes, some-map (λ m. eqb (m .to) id) (boxAt s) (arrivals s))
+          (some-no (λ e. eqb (actorId s (at s MAIL-OWNER e - 1)) id) (arrivals s) (λ e o. another n _ (box-owner k s g l r e o)));
+      hands = rw (r .mail .hands, some-map (λ m. eqb (m .to) id) (handAt s) (r .mail .palms))
+          (some-no (λ a. eqb (actorId s a) id) (r .mail .palms) (λ a o. another n a (palm-owner k s g l r a o)));
+      timers = rw (r .time .timers, some-map (λ t. eqb (t .owner) id) (timerAt s) (r .time .clocks))
+          (some-no (λ i. eqb (actorId s (at s TIMER-OWNER i - 1)) id) (r .time .clocks) (λ i o. another n _ (clock-owner k s g l r i o)));
+      links = rw (r .links .links, some-map (λ p. eqb (p .one) id || eqb (p .two) id) (linkAt s) (r .links .bonds))
+          (some-no (λ e. eqb (actorId s (at s LINK-ONE e - 1)) id || eqb (actorId s (at s LINK-TWO e - 1)) id) (r .links .bonds) (λ e o.
+          let b = bond-ends k s g l r e o in rw (another n _ (b .0), another n _ (b .1))));
+      monitors = rw (r .monitors .monitors, some-map (λ m. eqb (m .target) id || eqb (m .watcher) id) (monitorAt s) (r .monitors .eyes))
+          (some-no (λ i. eqb (actorId s (at s WATCHED i - 1)) id || eqb (actorId s (at s WATCHER i - 1)) id) (r .monitors .eyes) (λ i o.
+          let b = eye-ends k s g l r i o in rw (another n _ (b .1), another n _ (b .0))));
+      live = n;
+    };
     rests = λ e. split (eqb (runner s) 0)
         (λ q. z (sym e ∙ r .people .running ∙ rw q))
         (λ q. eqb-false (runnerId s) id (another n (runner s - 1) (runner-alive k s g q)) (sym (running-is k s g l r q) ∙ e));
@@ -140,10 +128,11 @@ exit-done reason k s =
     split (eqb (runner s) 0) (λ q. rw q (λ e. absurd (omega arith)))
     (λ q. split (ltb LAST-REASON reason) (λ t. rw (q, t) (λ e. absurd (omega arith))) (λ t. rw (q, t) (λ e. (refl, ltb-false LAST-REASON reason t))))
 
--- its answer and its state are the rule's
+-- its answer is the rule's
 exit-no : (reason sent lost : ℕ) (k : Caps) (s : State) → ended 0 sent lost ≡ step (exit reason) k s .ans → ruled (exitEntry reason) k s .ans .no ≡ 0
 exit-no reason sent lost k s e = sym (ap number e)
 
+-- who ran and is nobody now is over
 exit-once : (reason : ℕ) (k : Caps) (s : State) → isActor s (runnerId s) ≡ true → isActor (ruled (exitEntry reason) k s .state) (runnerId s) ≡ false → Over (step (exit reason) k s .state) (runnerId s)
 exit-once reason k s = over-once (exit reason) k s (runnerId s)
 

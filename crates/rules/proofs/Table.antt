@@ -25,9 +25,9 @@ use Rattle.tables.specs.State.{State, at, head}
 use Rattle.rules.specs.Terms.{runner}
 use Rattle.rules.specs.Actions.{letGo}
 use Rattle.rules.specs.Agrees.{Agrees}
-use Rattle.rules.specs.Calls.{Ans, Out, Shape, firstHead, firstMatch, notAtAll, ordered, out, receiveBare, refusal, ruled}
+use Rattle.rules.specs.Calls.{Ans, Out, Shape, entry, firstHead, firstMatch, notAtAll, ordered, out, receiveBare, refusal, ruled}
 use Rattle.rules.specs.Calls.Shape.{aNumber, anId, aTurn, aMessage, aPart, aPlace, anEnd, anAdvance, aReport}
-use Rattle.rules.specs.Run.{entry, numbers, said, say, step}
+use Rattle.rules.specs.Run.{numbers, said, say, step}
 use Rattle.rules.proofs.Advance.{advance-agrees, advance-keeps, advance-same}
 use Rattle.rules.proofs.Ages.{spawn-ages, still}
 use Rattle.rules.proofs.CallFrames.{beside-advance, beside-arm, beside-cancel, beside-demonitor, beside-exit, beside-link, beside-monitor, beside-next, beside-notify, beside-receive, beside-unlink, beside-yield}

@@ -34,11 +34,6 @@ set-cond l a v b h =
 pub used-inside : (l : List ℕ) (i : ℕ) → (getD l i 0 ≡ 0 → ⊥) → i < length l
 used-inside l i d = elim (decLt i (length l)) [ yes h ↦ h | no h ↦ absurd (d (List·getD-eq-default l 0 (omega arith))) ]
 
--- where neither of two tests holds the second does not
-pub or-right : (a b : Bool) → a || b ≡ false → b ≡ false
-or-right true b e = true-false true refl e
-or-right false b e = e
-
 -- a word one up, and down again
 pub down : (a : ℕ) → suc a - 1 ≡ a
 down a = omega arith

@@ -7,9 +7,9 @@ use mathlib.Core.List.{List}
 use lib.ListN.{length, getD}
 use lib.Seq.{getD-set-same}
 use lib.Dec.{eqb, ltb, lit<}
-use borrow.Author.Tests.{eqb-false, ne-eqb, ltb-true, ltb-false, lt-ltb, le-ltb}
+use borrow.Author.Tests.{eqb-false, ne-eqb, ltb-true, ltb-false, lt-ltb, le-ltb, not-false}
 use Rattle.pools.specs.Slot.{idOf, isLive, slotOf, unused, usable}
-use Rattle.pools.proofs.BoolLaws.{split, and-left, and-right}
+use Rattle.pools.proofs.BoolLaws.{split, and-left, and-right, neither}
 use Rattle.pools.proofs.PoolLaws.{lowest-at, lowest-first}
 use Rattle.pools.proofs.SlotLaws.{age-of-id, live-is, of-live, of-usable, slot-of-id}
 use Rattle.ledger.specs.Call.Op.{after, every, cancel, link, unlink, monitor, demonitor}
@@ -26,7 +26,7 @@ use Rattle.rules.proofs.Claims.{Keeps}
 use Rattle.rules.proofs.Frame.{Wrote, wrote-none, wrote-over, wrote-sized, wrote-still, wrote-within}
 use Rattle.rules.proofs.Frames.{TIMED, WATCHES, wrote-arm, wrote-disarm, wrote-tie, wrote-unwatch, wrote-watch}
 use Rattle.rules.proofs.Good.{Good}
-use Rattle.rules.proofs.GuardLaws.{Passed, held, neither}
+use Rattle.rules.proofs.GuardLaws.{Passed}
 use Rattle.rules.proofs.Groups as Part
 use Rattle.rules.proofs.Patch.{_by_also_, done, patch}
 use Rattle.rules.proofs.ColumnLaws.{alive-of, each-set, other}
@@ -93,7 +93,7 @@ timer-slot k s g id q =
 pub armed-keeps : (delay interval : ℕ) (bad : Bool) → delay ≤ LONGEST → interval ≤ LONGEST → (k : Caps) (s : State) → Good k s → Passed (armEntry delay interval bad .tests k s) → Good k (armEntry delay interval bad .work k s .state)
 armed-keeps delay interval bad d n k s g p =
     let i = timerFor k s in
-    let y = ltb-true i (k .timers) (held (ltb i (k .timers)) (p .1 .1 .0)) in
+    let y = ltb-true i (k .timers) (not-false (ltb i (k .timers)) (p .1 .1 .0)) in
     let f = of-usable OLDEST (s TIMER-OWNER) (s TIMER-AGE) i (lowest-at (usable OLDEST (s TIMER-OWNER) (s TIMER-AGE)) (k .timers) y) in
     arm-keeps k s g i (runner s - 1) (head s CLOCK + delay) interval y (f .1) (runner-alive k s g (p .0)) (omega (arith, g .head .0 .0)) n
 
@@ -112,7 +112,7 @@ pub cancel-keeps : (id : ℕ) → Keeps (cancel id)
 cancel-keeps id k s g p =
     let there = isTimer s id in
     let mine = eqb (at s TIMER-OWNER (slotOf TIMER-FACTOR id)) (runner s) in
-    disarm-keeps k s (slotOf TIMER-FACTOR id) g (timer-slot k s g id (and-left there mine (held (there && mine) (p .1 .0))))
+    disarm-keeps k s (slotOf TIMER-FACTOR id) g (timer-slot k s g id (and-left there mine (not-false (there && mine) (p .1 .0))))
 
 -- ---- actors by their ids
 module _ (k : Caps) (s : State) (g : Good k s) where
@@ -159,10 +159,10 @@ pub link-keeps : (partner : ℕ) → Keeps (link partner)
 link-keeps partner k s g p =
     let b = suc (slotOf ACTOR-FACTOR partner) in
     let h = p .0 in
-    let r = held (isActor s partner) (p .1 .1 .0) in
+    let r = not-false (isActor s partner) (p .1 .1 .0) in
     split (ltb (linkOf k s (runner s) b) (k .links)) (λ v. rw v g)
     (λ v. let w : not (ltb (linkFor k s) (k .links)) ≡ false = rw v at (p .1 .1 .1 .0) in
-    rw v (tie-keeps k s g (linkFor k s) (runner s) b (ltb-true (linkFor k s) (k .links) (held (ltb (linkFor k s) (k .links)) w)) (eqb-false (runner s) 0 h) (λ z. omega arith)
+    rw v (tie-keeps k s g (linkFor k s) (runner s) b (ltb-true (linkFor k s) (k .links) (not-false (ltb (linkFor k s) (k .links)) w)) (eqb-false (runner s) 0 h) (λ z. omega arith)
     (runner-alive k s g h) (rw (down (slotOf ACTOR-FACTOR partner)) (actor-alive k s g partner r)) (actor-other k s g partner h r (p .1 .0))
     (λ d m. lowest-first (joins (s LINK-ONE) (s LINK-TWO) (runner s) b) (k .links) d (omega (arith, ltb-false (linkOf k s (runner s) b) (k .links) v)))))
 
@@ -170,7 +170,7 @@ link-keeps partner k s g p =
 pub unlink-keeps : (partner : ℕ) → Keeps (unlink partner)
 unlink-keeps partner k s g p =
     let e = linkOf k s (runner s) (suc (slotOf ACTOR-FACTOR partner)) in
-    untie-keeps k s g e (ltb-true e (k .links) (and-right (isActor s partner) (ltb e (k .links)) (held (isActor s partner && ltb e (k .links)) (p .1 .0))))
+    untie-keeps k s g e (ltb-true e (k .links) (and-right (isActor s partner) (ltb e (k .links)) (not-false (isActor s partner && ltb e (k .links)) (p .1 .0))))
 
 -- ---- monitors
 module _ (k : Caps) (s : State) (g : Good k s) where
@@ -229,8 +229,8 @@ monitor-slot k s g id q =
 pub monitor-keeps : (target : ℕ) → Keeps (monitor target)
 monitor-keeps target k s g p =
     let i = monitorFor k s in
-    let r = held (isActor s target) (p .1 .1 .0) in
-    let m = ltb-true i (k .monitors) (held (ltb i (k .monitors)) (p .1 .1 .1 .0)) in
+    let r = not-false (isActor s target) (p .1 .1 .0) in
+    let m = ltb-true i (k .monitors) (not-false (ltb i (k .monitors)) (p .1 .1 .1 .0)) in
     let f = of-usable OLDEST (s WATCHER) (s MONITOR-AGE) i (lowest-at (usable OLDEST (s WATCHER) (s MONITOR-AGE)) (k .monitors) m) in
     watch-keeps k s g i (runner s) (suc (slotOf ACTOR-FACTOR target)) m (f .1) (eqb-false (runner s) 0 (p .0)) (λ z. omega arith) (runner-alive k s g (p .0)) (rw (down (slotOf ACTOR-FACTOR target)) (actor-alive k s g target r)) (actor-other k s g target (p .0) r (p .1 .0))
 
@@ -238,7 +238,7 @@ monitor-keeps target k s g p =
 pub demonitor-keeps : (id : ℕ) → Keeps (demonitor id)
 demonitor-keeps id k s g p =
     let mine = eqb (at s WATCHER (slotOf MONITOR-FACTOR id)) (runner s) in
-    unwatch-keeps k s (slotOf MONITOR-FACTOR id) g (monitor-slot k s g id (and-left (isMonitor s id) mine (held (isMonitor s id && mine) (p .1 .0))))
+    unwatch-keeps k s (slotOf MONITOR-FACTOR id) g (monitor-slot k s g id (and-left (isMonitor s id) mine (not-false (isMonitor s id && mine) (p .1 .0))))
 
 -- ---- an actor's own monitors and timers end
 module _ (s u v : State) (p q : ℕ → Bool) where

@@ -7,7 +7,7 @@ use mathlib.Core.List.{List, [], _∷_, _++_, map, map-map, map-append}
 use lib.ListN.{getD, length, set}
 use lib.Seq.{getD-set-same}
 use lib.Dec.{eqb, ltb, lit<}
-use borrow.Author.Tests.{eqb-true, eqb-false, eq-eqb, ne-eqb, ltb-true, ltb-false, lt-ltb, not-true}
+use borrow.Author.Tests.{eqb-true, eqb-false, eq-eqb, ne-eqb, ltb-true, ltb-false, lt-ltb, not-true, not-false}
 use Rattle.ledger.specs.Call.{Op, when}
 use Rattle.ledger.specs.Call.Call.{op}
 use Rattle.ledger.specs.Call.Why.{malformed, full}
@@ -37,7 +37,7 @@ use Rattle.rules.specs.Run.{sayMade}
 use Rattle.rules.specs.Sound.{pairRule}
 use Rattle.rules.proofs.Claims.{Agreed, Tested}
 use Rattle.rules.proofs.Good.{Good}
-use Rattle.rules.proofs.GuardLaws.{Passed, held}
+use Rattle.rules.proofs.GuardLaws.{Passed}
 use Rattle.rules.proofs.ColumnLaws.{other}
 use Rattle.rules.proofs.LedgerLaws
 use Rattle.rules.proofs.LedgerLaws.{bond-ends, clock-owner, eye-ends, full-same, idle-same, known-same, links-left, live-some, map-same-on, monitors-left, running-is, runner-alive, some-map, some-no, some-yes, stranger, those-map, timers-left}
@@ -76,14 +76,17 @@ module _ (k : Caps) (l : Ledger) (s u : State) (z : Sized k s) (v : InRange k) (
       (worn-ends (s TIMER-OWNER) (u TIMER-OWNER) p (t .owner) TIMER-FACTOR (s TIMER-AGE) (a .time .clocks) (l .time .worn)
       (λ e o. omega (arith, clock-used e o .1, v .fewTimers)) (a .time .allClocks) (a .time .wornClocks)))
     where
+      -- the two tests agree on the timers of the list
       same : (e : ℕ) → 0 < occurs e (a .time .clocks) → q (timerAt s e) ≡ p e
       same e o = let c = clock-used e o in h e (c .0) (c .1)
 
+      -- one that does not pass is as it was
       stays : (e : ℕ) → 0 < occurs e (keep (λ d. not (p d)) (a .time .clocks)) → timerAt s e ≡ timerAt u e
       stays e o =
           let r = not-true (p e) (keep-in (λ d. not (p d)) (a .time .clocks) e o .1) in
           rw (t .age, t .owner e, t .due e, t .interval e, t .wrote .cols AGE refl, r)
 
+      -- and so the reckoning's that are left
       left : those (λ x. not (q x)) (l .time .timers) ≡ map (timerAt u) (keep (λ e. not (p e)) (a .time .clocks))
       left =
           rw (a .time .timers) (those-map (λ x. not (q x)) (timerAt s) (a .time .clocks)
@@ -113,15 +116,18 @@ module _ (k : Caps) (l : Ledger) (s : State) (g : Good k s) (a : Agrees k l s) w
       (rw (map-append (timerAt (arm s i b t n)) (a .time .clocks) (i ∷ []), a .time .timers, map-same-on (timerAt s) (timerAt (arm s i b t n)) (a .time .clocks) stays, born))
       (worn-begins (s TIMER-OWNER) (s TIMER-AGE) i (suc b) inside u (λ q. omega arith) (l .time .worn) y (a .time .wornClocks))
     where
+      -- the slot has a word
       inside : i < length (s TIMER-OWNER)
       inside = omega (arith, g .sized .words TIMER-OWNER (lit< tt))
 
+      -- the timers that were there are as they were
       stays : (e : ℕ) → 0 < occurs e (a .time .clocks) → timerAt s e ≡ timerAt (arm s i b t n) e
       stays e o =
           let c = clock-used k l s s (g .sized) (g .range) a e o in
           let q : eqb e i ≡ false = ne-eqb e i (λ z. c .0 (ap (at s TIMER-OWNER) z ∙ u)) in
           rw (other (s TIMER-AGE) i (at s TIMER-AGE i + 1) e q, other (s TIMER-OWNER) i (suc b) e q, other (s DUE) i t e q, other (s INTERVAL) i n e q)
 
+      -- the new one
       born : timerAt (arm s i b t n) i ≡ timer (idOf TIMER-FACTOR (at s TIMER-AGE i + 1) i) (actorId s b) t n
       born =
           rw (
@@ -138,7 +144,7 @@ module _ (k : Caps) (l : Ledger) (s : State) (g : Good k s) (a : Agrees k l s) w
   unfolding entered
   armed-agrees c delay interval bad d p =
       let i = timerFor k s in
-      let y = ltb-true i (k .timers) (held (ltb i (k .timers)) (p .1 .1 .0)) in
+      let y = ltb-true i (k .timers) (not-false (ltb i (k .timers)) (p .1 .1 .0)) in
       let f = of-usable OLDEST (s TIMER-OWNER) (s TIMER-AGE) i (lowest-at (usable OLDEST (s TIMER-OWNER) (s TIMER-AGE)) (k .timers) y) in
       let r = idOf TIMER-FACTOR (at s TIMER-AGE i + 1) i in
       let e : timer r (l .people .running) (l .time .clock + delay) interval ≡ timer r (runnerId s) (head s CLOCK + delay) interval = rw (running-is k s g l a (p .0), a .time .clock) in
@@ -160,7 +166,7 @@ unfolding entered
 cancel-agrees id k s l g a p =
     let there = isTimer s id in
     let mine = eqb (at s TIMER-OWNER (slotOf TIMER-FACTOR id)) (runner s) in
-    let t = and-left there mine (held (there && mine) (p .1 .0)) in
+    let t = and-left there mine (not-false (there && mine) (p .1 .0)) in
     let e : id ≡ timerId s (slotOf TIMER-FACTOR id) = live-is TIMER-FACTOR (s TIMER-OWNER) (s TIMER-AGE) id (omega arith) t in
     subst (λ (x : ℕ). Agrees k (endTimers (λ t. eqb (t .id) x) l) (disarm s (slotOf TIMER-FACTOR id))) (sym e) (disarm-agrees k l s (slotOf TIMER-FACTOR id) g a (timer-slot k s g id t))
 
@@ -250,15 +256,18 @@ module _ (k : Caps) (l : Ledger) (s : State) (g : Good k s) (a : Agrees k l s) w
       (begins (s LINK-ONE) (s LINK-ONE) e b inside u n (a .links .bonds) (a .links .allBonds))
       (rw (map-append (linkAt (tie s e b c)) (a .links .bonds) (e ∷ []), a .links .links, map-same-on (linkAt s) (linkAt (tie s e b c)) (a .links .bonds) stays, born))
     where
+      -- the entry has a word
       inside : e < length (s LINK-ONE)
       inside = omega (arith, g .sized .words LINK-ONE (lit< tt))
 
+      -- the links that were there are as they were
       stays : (d : ℕ) → 0 < occurs d (a .links .bonds) → linkAt s d ≡ linkAt (tie s e b c) d
       stays d o =
           let f = bond-used d o in
           let q : eqb d e ≡ false = ne-eqb d e (λ z. f .0 (ap (at s LINK-ONE) z ∙ u)) in
           rw (other (s LINK-ONE) e b d q, other (s LINK-TWO) e c d q)
 
+      -- the new one
       born : linkAt (tie s e b c) e ≡ record { one = actorId s (b - 1); two = actorId s (c - 1) }
       born = rw (getD-set-same (s LINK-ONE) e b 0 inside, getD-set-same (s LINK-TWO) e c 0 (omega (arith, g .sized .words LINK-TWO (lit< tt))))
 
@@ -272,6 +281,7 @@ module _ (k : Caps) (l : Ledger) (s : State) (g : Good k s) (a : Agrees k l s) w
       ∙ ap (map (linkAt s)) (keep-same-on (λ d. not (q (linkAt s d))) (λ d. not (eqb d e)) (a .links .bonds) (λ d o. let f = bond-used d o in ap not (h d (f .0) (f .1))))
       ∙ map-same-on (linkAt s) (linkAt (tie s e 0 0)) (keep (λ d. not (eqb d e)) (a .links .bonds)) stays))
     where
+      -- the others are as they were
       stays : (d : ℕ) → 0 < occurs d (keep (λ d. not (eqb d e)) (a .links .bonds)) → linkAt s d ≡ linkAt (tie s e 0 0) d
       stays d o =
           let r = not-true (eqb d e) (keep-in (λ d. not (eqb d e)) (a .links .bonds) d o .1) in
@@ -292,11 +302,11 @@ unfolding entered
 link-agrees partner k s l g a p =
     let b = suc (slotOf ACTOR-FACTOR partner) in
     let h = p .0 in
-    let r = held (isActor s partner) (p .1 .1 .0) in
+    let r = not-false (isActor s partner) (p .1 .1 .0) in
     let e = linked-run k l s g a partner h r in
     split (ltb (linkOf k s (runner s) b) (k .links)) (λ v. rw (v, e ∙ v) a)
     (λ v. let w : not (ltb (linkFor k s) (k .links)) ≡ false = rw v at (p .1 .1 .1 .0) in
-    let x : linkFor k s < k .links = ltb-true (linkFor k s) (k .links) (held (ltb (linkFor k s) (k .links)) w) in
+    let x : linkFor k s < k .links = ltb-true (linkFor k s) (k .links) (not-false (ltb (linkFor k s) (k .links)) w) in
     let z : _≡_ {A = Link} (record { one = l .people .running; two = partner }) (record { one = actorId s (runner s - 1); two = actorId s (b - 1) }) =
     both (running-is k s g l a h) (live-is ACTOR-FACTOR (s STATE) (s AGE) partner (omega arith) r ∙ ap (actorId s) (sym (down (slotOf ACTOR-FACTOR partner)))) in
     rw (v, e ∙ v) (subst (λ (x : Link). Agrees k (withTies l (ties (l .ties .links ++ (x ∷ [])) (l .ties .monitors) (l .ties .worn))) (tie s (linkFor k s) (runner s) b)) (sym z)
@@ -318,7 +328,7 @@ link-same partner k s l g a = (
       ap not (known-same k s g l a partner),
       refl,
       λ u. (
-        ap₂ (λ (x : Bool) (y : Bool). not x && y) (sym (linked-run k l s g a partner h (held (isActor s partner) u))) (full-same (unused (s LINK-ONE)) (k .links) (linksLeft l) (links-left k s g l a)),
+        ap₂ (λ (x : Bool) (y : Bool). not x && y) (sym (linked-run k l s g a partner h (not-false (isActor s partner) u))) (full-same (unused (s LINK-ONE)) (k .links) (linksLeft l) (links-left k s g l a)),
         refl,
         λ z. record {},
       ),
@@ -345,7 +355,7 @@ pub unlink-agrees : (partner : ℕ) → Agreed (unlink partner)
 unfolding entered
 unlink-agrees partner k s l g a p =
     let i = linkOf k s (runner s) (suc (slotOf ACTOR-FACTOR partner)) in
-    let q = held (isActor s partner && ltb i (k .links)) (p .1 .0) in
+    let q = not-false (isActor s partner && ltb i (k .links)) (p .1 .0) in
     let r = and-left (isActor s partner) (ltb i (k .links)) q in
     let m = ltb-true i (k .links) (and-right (isActor s partner) (ltb i (k .links)) q) in
     untie-agrees k l s g a i (Reckon.joins (l .people .running) partner) m (λ d u n.
@@ -388,14 +398,17 @@ module _ (k : Caps) (l : Ledger) (s u : State) (g : Good k s) (a : Agrees k l s)
       (worn-ends (s WATCHER) (u WATCHER) p (t .watcher) MONITOR-FACTOR (s MONITOR-AGE) (a .monitors .eyes) (l .ties .worn)
       (λ e o. omega (arith, eye-used e o .1, g .range .fewMonitors)) (a .monitors .allEyes) (a .monitors .wornEyes)))
     where
+      -- the two tests agree on the monitors of the list
       same : (e : ℕ) → 0 < occurs e (a .monitors .eyes) → q (monitorAt s e) ≡ p e
       same e o = let c = eye-used e o in h e (c .0) (c .1)
 
+      -- one that does not pass is as it was
       stays : (e : ℕ) → 0 < occurs e (keep (λ d. not (p d)) (a .monitors .eyes)) → monitorAt s e ≡ monitorAt u e
       stays e o =
           let r = not-true (p e) (keep-in (λ d. not (p d)) (a .monitors .eyes) e o .1) in
           rw (t .age, t .watcher e, t .watched e, t .wrote .cols AGE refl, r)
 
+      -- and so the reckoning's that are left
       left : those (λ x. not (q x)) (l .ties .monitors) ≡ map (monitorAt u) (keep (λ e. not (p e)) (a .monitors .eyes))
       left =
           rw (a .monitors .monitors) (those-map (λ x. not (q x)) (monitorAt s) (a .monitors .eyes)
@@ -421,15 +434,18 @@ module _ (k : Caps) (l : Ledger) (s : State) (g : Good k s) (a : Agrees k l s) w
       (rw (map-append (monitorAt (watch s i b c)) (a .monitors .eyes) (i ∷ []), a .monitors .monitors, map-same-on (monitorAt s) (monitorAt (watch s i b c)) (a .monitors .eyes) stays, born))
       (worn-begins (s WATCHER) (s MONITOR-AGE) i b inside u n (l .ties .worn) y (a .monitors .wornEyes))
     where
+      -- the slot has a word
       inside : i < length (s WATCHER)
       inside = omega (arith, g .sized .words WATCHER (lit< tt))
 
+      -- the monitors that were there are as they were
       stays : (e : ℕ) → 0 < occurs e (a .monitors .eyes) → monitorAt s e ≡ monitorAt (watch s i b c) e
       stays e o =
           let f = eye-used k l s s g a e o in
           let q : eqb e i ≡ false = ne-eqb e i (λ z. f .0 (ap (at s WATCHER) z ∙ u)) in
           rw (other (s MONITOR-AGE) i (at s MONITOR-AGE i + 1) e q, other (s WATCHER) i b e q, other (s WATCHED) i c e q)
 
+      -- the new one
       born : monitorAt (watch s i b c) i ≡ record { id = idOf MONITOR-FACTOR (at s MONITOR-AGE i + 1) i; watcher = actorId s (b - 1); target = actorId s (c - 1) }
       born =
           rw (
@@ -444,8 +460,8 @@ unfolding entered
 monitor-agrees target k s l g a p =
     let i = monitorFor k s in
     let b = suc (slotOf ACTOR-FACTOR target) in
-    let r = held (isActor s target) (p .1 .1 .0) in
-    let m = ltb-true i (k .monitors) (held (ltb i (k .monitors)) (p .1 .1 .1 .0)) in
+    let r = not-false (isActor s target) (p .1 .1 .0) in
+    let m = ltb-true i (k .monitors) (not-false (ltb i (k .monitors)) (p .1 .1 .1 .0)) in
     let f = of-usable OLDEST (s WATCHER) (s MONITOR-AGE) i (lowest-at (usable OLDEST (s WATCHER) (s MONITOR-AGE)) (k .monitors) m) in
     let z = both (idOf MONITOR-FACTOR (at s MONITOR-AGE i + 1) i) (running-is k s g l a (p .0)) (live-is ACTOR-FACTOR (s STATE) (s AGE) target (omega arith) r ∙ ap (actorId s) (sym (down (slotOf ACTOR-FACTOR target)))) in
     subst (λ (x : Monitor). Agrees k (withTies l (ties (l .ties .links) (l .ties .monitors ++ (x ∷ [])) (l .ties .worn))) (watch s i (runner s) b)) (sym z)
@@ -476,7 +492,7 @@ pub demonitor-agrees : (id : ℕ) → Agreed (demonitor id)
 unfolding entered
 demonitor-agrees id k s l g a p =
     let mine = eqb (at s WATCHER (slotOf MONITOR-FACTOR id)) (runner s) in
-    let t = and-left (isMonitor s id) mine (held (isMonitor s id && mine) (p .1 .0)) in
+    let t = and-left (isMonitor s id) mine (not-false (isMonitor s id && mine) (p .1 .0)) in
     let e : id ≡ monitorId s (slotOf MONITOR-FACTOR id) = live-is MONITOR-FACTOR (s WATCHER) (s MONITOR-AGE) id (omega arith) t in
     subst (λ (x : ℕ). Agrees k (endMonitors (λ m. eqb (m .id) x) l) (unwatch s (slotOf MONITOR-FACTOR id))) (sym e) (unwatch-agrees k l s (slotOf MONITOR-FACTOR id) g a (monitor-slot k s g id t))
 
@@ -504,6 +520,7 @@ module _ (k : Caps) (l : Ledger) (s : State) (g : Good k s) (a : Agrees k l s) (
 pub cancel-same : (id : ℕ) → Tested (cancel id)
 cancel-same id k s l g a = (idle-same k s g l a, refl, λ h. (ap not (there h), refl, λ z. record {}))
   where
+    -- such a timer is the running actor's on both sides, or on neither
     there : eqb (runner s) 0 ≡ false → isTimer s id && eqb (at s TIMER-OWNER (slotOf TIMER-FACTOR id)) (runner s) ≡ owns l id
     there h =
         rw (a .time .timers, some-map (λ t. eqb (t .id) id && eqb (t .owner) (l .people .running)) (timerAt s) (a .time .clocks))
@@ -514,6 +531,7 @@ cancel-same id k s l g a = (idle-same k s g l a, refl, λ h. (ap not (there h), 
 pub demonitor-same : (id : ℕ) → Tested (demonitor id)
 demonitor-same id k s l g a = (idle-same k s g l a, refl, λ h. (ap not (there h), refl, λ z. record {}))
   where
+    -- such a monitor is the running actor's on both sides, or on neither
     there : eqb (runner s) 0 ≡ false → isMonitor s id && eqb (at s WATCHER (slotOf MONITOR-FACTOR id)) (runner s) ≡ watches l id
     there h =
         rw (a .monitors .monitors, some-map (λ m. eqb (m .id) id && eqb (m .watcher) (l .people .running)) (monitorAt s) (a .monitors .eyes))

@@ -83,7 +83,7 @@ fn ended(sent: u64, lost: u64) -> Answer {
 }
 
 fn receive_any(wait: i64) -> Call {
-    Call::Receive { sender: ANY_SENDER, class: ANY_CLASS, tag: ANY_TAG, wait }
+    Call::Receive(ANY_SENDER, ANY_CLASS, ANY_TAG, wait)
 }
 
 fn received(sender: u64, class: u64, tag: u64, length: u64) -> Answer {
@@ -95,7 +95,7 @@ fn nothing_received(no: u64) -> Answer {
 }
 
 fn notify(target: u64, tag: u64, length: usize) -> Call {
-    Call::Notify { target, tag, payload: vec![1; length] }
+    Call::Notify(target, tag, vec![1; length])
 }
 
 pub fn compare_examples() -> Checked {

@@ -1,10 +1,11 @@
 //! Faults that can be put into the stand-in, one at a time (environment variable FG_FAULT), to see that
 //! the differential test finds them: the wrong runtimes that document 01 names, and errors that are easy to make.
 
+use crate::call::{Answer, Call};
 use crate::layout::{self, CLOCK, DATA_FREE, SPARE};
 use model::limits::*;
 use model::state::{Activity, Reason, State};
-use model::Model;
+use model::{Ended, Model};
 use std::sync::OnceLock;
 
 pub const NAMES: [&str; 20] = [
@@ -82,6 +83,38 @@ pub fn before(call: &str, state: &mut State) {
     }
     if is("notices-before-clearing") && call == "exit" {
         keep_room_taken(state);
+    }
+}
+
+/// Bends the call itself.
+pub fn call(call: Call, before: &Model) -> Call {
+    match call {
+        Call::Notify(target, tag, payload) if is("only-the-slot-of-an-id") => {
+            Call::Notify(same_slot(before, target), tag, payload)
+        }
+        Call::Receive(sender, class, tag, wait) if is("head-instead-of-match") && tag < ANY_TAG => {
+            Call::Receive(sender, class, ANY_TAG, wait)
+        }
+        call => call,
+    }
+}
+
+/// The id of whoever is in the slot now.
+fn same_slot(m: &Model, id: u64) -> u64 {
+    let slot = (id % ACTOR_FACTOR) as usize;
+    match &m.state {
+        Some(state) if state.actors.get(slot).is_some() => state.actors.id(slot),
+        _ => id,
+    }
+}
+
+/// Bends what is answered.
+pub fn answer(answer: Answer) -> Answer {
+    match answer {
+        Answer::Ended(ended) if is("counts-invented") => {
+            Answer::Ended(Ended { sent: ended.sent + ended.lost, lost: 0, ..ended })
+        }
+        answer => answer,
     }
 }
 

@@ -1,6 +1,7 @@
 //! Random calls: mostly sensible ones, so that runs get far, and every boundary value of document 01.
 
 use crate::call::Call;
+use crate::calls::calls;
 use crate::random::Random;
 use model::limits::*;
 use model::pool::Slots;
@@ -23,37 +24,44 @@ impl Seen {
     }
 }
 
-/// How often each group of calls is made in one run.
+/// How one run goes.
 #[derive(Debug, Clone)]
 pub struct Mood {
-    weights: [u64; 16],
+    /// The column of the table's chances.
+    kind: usize,
     /// Of a hundred numbers, how many are chosen to be odd.
     odd: u64,
     /// The largest payload that is sent often.
     payload: u64,
 }
 
-/// The order of the weights: spawn, next, yield, notify, receive, shown, after, every, cancel, link,
-/// unlink, monitor, demonitor, exit, advance, report.
-const MOODS: [[u64; 16]; 7] = [
-    // A bit of everything.
-    [4, 10, 6, 20, 20, 4, 4, 3, 3, 4, 2, 4, 2, 3, 8, 2],
-    // Messages until the pools are full.
-    [3, 10, 8, 50, 10, 3, 1, 1, 1, 1, 1, 1, 1, 1, 3, 2],
-    // Messages that come and go.
-    [3, 15, 5, 25, 35, 6, 1, 1, 1, 1, 1, 1, 1, 1, 4, 1],
-    // Timers and deadlines.
-    [3, 10, 4, 4, 20, 2, 14, 10, 5, 1, 1, 1, 1, 2, 24, 2],
-    // Many links, monitors and ends.
-    [16, 12, 6, 6, 6, 2, 3, 2, 1, 18, 4, 16, 4, 10, 3, 2],
-    // Many short lives.
-    [25, 20, 2, 8, 6, 2, 3, 1, 1, 5, 1, 5, 1, 20, 3, 2],
-    // Everything is made and nothing ends.
-    [20, 12, 10, 10, 2, 1, 10, 10, 1, 14, 1, 14, 1, 1, 1, 2],
-];
+/// The moods, the columns of the table. Mixed: a bit of everything. Full: messages until the pools are full. Flow: messages that come and go.
+/// Time: timers and deadlines. Ties: many links, monitors and ends. Lives: many short lives. More: everything is made and nothing ends.
+const MOODS: usize = 7;
+
+/// How often a call is made in each mood, and how.
+struct Chance {
+    name: &'static str,
+    weights: [u64; MOODS],
+    choose: fn(&mut Generator) -> Call,
+}
+
+macro_rules! chances {
+    (
+        numbers { $($call:ident $(($($arg:ident: $ty:ty),*))? = $c:ident, $method:ident -> $answer:ty, $weights:expr, $choose:expr;)* }
+        payloads { $($sent:ident($($with:ident: $kind:ty),*) = $sent_c:ident, $sent_method:ident -> $sent_answer:ty, $sent_weights:expr, $sent_choose:expr;)* }
+    ) => {
+        const CHANCES: &[Chance] = &[
+            $(Chance { name: stringify!($c), weights: $weights, choose: $choose },)*
+            $(Chance { name: stringify!($sent_c), weights: $sent_weights, choose: $sent_choose },)*
+        ];
+    };
+}
+
+calls!(chances);
 
 pub fn mood(random: &mut Random) -> Mood {
-    Mood { weights: random.pick(&MOODS), odd: random.pick(&[2, 8, 30]), payload: random.pick(&[4, 20, 252]) }
+    Mood { kind: random.index(MOODS), odd: random.pick(&[2, 8, 30]), payload: random.pick(&[4, 20, 252]) }
 }
 
 /// Capacities for a start that succeeds in long enough buffers.
@@ -100,24 +108,8 @@ impl Generator<'_> {
         if let Some(call) = self.likely() {
             return call;
         }
-        match self.random.weighted(&self.weights()) {
-            0 => Call::Spawn(self.priority()),
-            1 => Call::Next,
-            2 => Call::Yield,
-            3 => self.notify(),
-            4 => self.receive(),
-            5 => Call::Shown,
-            6 => Call::After(self.step()),
-            7 => Call::Every(self.step()),
-            8 => Call::Cancel(self.own_timer().unwrap_or_else(|| self.timer())),
-            9 => Call::Link(self.actor()),
-            10 => Call::Unlink(self.partner().unwrap_or_else(|| self.actor())),
-            11 => Call::Monitor(self.actor()),
-            12 => Call::Demonitor(self.own_monitor().unwrap_or_else(|| self.monitor())),
-            13 => Call::Exit(self.reason()),
-            14 => Call::Advance(self.advance()),
-            _ => Call::Report,
-        }
+        let chosen = self.random.weighted(&self.weights());
+        (CHANCES[chosen].choose)(self)
     }
 
     /// What a host would do when nobody runs, in most cases.
@@ -142,12 +134,10 @@ impl Generator<'_> {
     }
 
     /// The mood's weights; next is seldom called while somebody runs.
-    fn weights(&self) -> [u64; 16] {
-        let mut weights = self.mood.weights;
-        if self.state.is_some_and(|s| s.running().is_some()) {
-            weights[1] = 1;
-        }
-        weights
+    fn weights(&self) -> Vec<u64> {
+        let busy = self.state.is_some_and(|s| s.running().is_some());
+        let weight = |c: &Chance| if busy && c.name == "fg_next" { 1 } else { c.weights[self.mood.kind] };
+        CHANCES.iter().map(weight).collect()
     }
 
     fn odd(&mut self) -> bool {
@@ -177,6 +167,19 @@ impl Generator<'_> {
         } else {
             None
         }
+    }
+
+    /// One of the running actor's in half the cases, or any.
+    fn some_timer(&mut self) -> u64 {
+        self.own_timer().unwrap_or_else(|| self.timer())
+    }
+
+    fn some_monitor(&mut self) -> u64 {
+        self.own_monitor().unwrap_or_else(|| self.monitor())
+    }
+
+    fn some_partner(&mut self) -> u64 {
+        self.partner().unwrap_or_else(|| self.actor())
     }
 
     fn own_timer(&mut self) -> Option<u64> {
@@ -230,7 +233,7 @@ impl Generator<'_> {
         if self.random.percent(25) {
             if let Some((target, tag)) = self.awaited() {
                 let length = self.random.index(20);
-                return Call::Notify { target, tag, payload: self.random.bytes(length) };
+                return Call::Notify(target, tag, self.random.bytes(length));
             }
         }
         let length = if self.odd() {
@@ -238,16 +241,16 @@ impl Generator<'_> {
         } else {
             self.random.between(0, self.mood.payload) as usize
         };
-        Call::Notify { target: self.actor(), tag: self.tag(), payload: self.random.bytes(length) }
+        Call::Notify(self.actor(), self.tag(), self.random.bytes(length))
     }
 
     fn receive(&mut self) -> Call {
         if self.random.percent(50) {
             if let Some((sender, class, tag)) = self.fitting() {
-                return Call::Receive { sender, class, tag, wait: self.wait() };
+                return Call::Receive(sender, class, tag, self.wait());
             }
         }
-        Call::Receive { sender: self.sender(), class: self.class(), tag: self.wanted_tag(), wait: self.wait() }
+        Call::Receive(self.sender(), self.class(), self.wanted_tag(), self.wait())
     }
 
     fn sender(&mut self) -> u64 {

@@ -4,6 +4,7 @@
 //! where they are not sound.
 
 mod call;
+mod calls;
 mod compare;
 mod counts;
 mod damage;

@@ -2,9 +2,11 @@
 //! With it the test compares the model with itself and so tests its own parts.
 //! Only used where no archive of the library is linked (`cfg(self_test)`, and the archive `standin`).
 
+use crate::call::{Answer, Call};
+use crate::calls::calls;
 use crate::layout::table_suffices;
 use crate::{encode, faults};
-use model::limits::{bytes_needed, ACTOR_FACTOR, ANY_TAG};
+use model::limits::bytes_needed;
 use model::{records, Advanced, Ended, ExitRead, Made, Model, ReasonWord, Received, Report, Shown, TickRead, Turn};
 use std::slice::{from_raw_parts, from_raw_parts_mut};
 
@@ -12,30 +14,23 @@ use std::slice::{from_raw_parts, from_raw_parts_mut};
 ///
 /// # Safety
 /// Both pointers must be good for their lengths, and the buffers must not overlap.
-unsafe fn on_buffers<A>(
-    t: *mut u64,
-    t_len: usize,
-    p: *mut u8,
-    p_len: usize,
-    name: &str,
-    call: impl FnOnce(&mut Model) -> A,
-) -> A {
+unsafe fn on_buffers(t: *mut u64, t_len: usize, p: *mut u8, p_len: usize, call: Call) -> Answer {
     let (words, bytes) = (from_raw_parts_mut(t, t_len), from_raw_parts_mut(p, p_len));
     let before = Model { state: faults::read(words, bytes) };
     let mut bent = before.clone();
-    bent.state.iter_mut().for_each(|state| faults::before(name, state));
+    bent.state.iter_mut().for_each(|state| faults::before(call.name(), state));
     let mut after = bent.clone();
-    let answer = call(&mut after);
+    let answer = faults::call(call.clone(), &before).on_model(&mut after, t_len, p_len);
     if after == bent {
         after = before.clone();
     } else if let (Some(old), Some(new)) = (&before.state, &mut after.state) {
-        faults::after(name, old, new);
+        faults::after(call.name(), old, new);
     }
     if after != before {
         store(&after, words, bytes);
     }
     faults::spoil(&before, &after, words, bytes);
-    answer
+    faults::answer(answer)
 }
 
 fn store(m: &Model, words: &mut [u64], bytes: &mut [u8]) {
@@ -70,84 +65,31 @@ unsafe extern "C" fn fg_start(
     no
 }
 
-macro_rules! stand_in {
-    ($($name:ident = $call:ident($($arg:ident: $ty:ty),*) -> $answer:ty;)*) => {$(
-        #[no_mangle]
-        unsafe extern "C" fn $name(t: *mut u64, t_len: usize, p: *mut u8, p_len: usize $(, $arg: $ty)*) -> $answer {
-            on_buffers(t, t_len, p, p_len, &stringify!($name)[3..], |m| m.$call($($arg),*))
-        }
-    )*};
+macro_rules! stand_ins {
+    (
+        numbers { $($call:ident $(($($arg:ident: $ty:ty),*))? = $c:ident, $method:ident -> $answer:ty, $chances:expr, $chosen:expr;)* }
+        payloads { $($sent:ident($($with:ident: $kind:ty),*) = $sent_c:ident, $sent_method:ident -> $sent_answer:ty, $sent_chances:expr, $sent_chosen:expr;)* }
+    ) => {
+        $(
+            #[no_mangle]
+            unsafe extern "C" fn $c(t: *mut u64, t_len: usize, p: *mut u8, p_len: usize $($(, $arg: $ty)*)?) -> $answer {
+                on_buffers(t, t_len, p, p_len, Call::$call $(($($arg),*))?).into()
+            }
+        )*
+
+        $(
+            #[no_mangle]
+            unsafe extern "C" fn $sent_c(
+                t: *mut u64, t_len: usize, p: *mut u8, p_len: usize, $($with: $kind,)* payload: *const u8, payload_len: usize,
+            ) -> $sent_answer {
+                let payload = from_raw_parts(payload, payload_len).to_vec();
+                on_buffers(t, t_len, p, p_len, Call::$sent($($with,)* payload)).into()
+            }
+        )*
+    };
 }
 
-stand_in! {
-    fg_spawn = spawn(priority: u64) -> Made;
-    fg_next = next() -> Turn;
-    fg_yield = yield_now() -> u64;
-    fg_shown = shown() -> Shown;
-    fg_after = after(delay: u64) -> Made;
-    fg_every = every(interval: u64) -> Made;
-    fg_cancel = cancel(timer: u64) -> u64;
-    fg_link = link(partner: u64) -> u64;
-    fg_unlink = unlink(partner: u64) -> u64;
-    fg_monitor = monitor(target: u64) -> Made;
-    fg_demonitor = demonitor(monitor: u64) -> u64;
-    fg_advance = advance(us: u64) -> Advanced;
-    fg_report = report() -> Report;
-}
-
-#[no_mangle]
-unsafe extern "C" fn fg_notify(
-    t: *mut u64,
-    t_len: usize,
-    p: *mut u8,
-    p_len: usize,
-    target: u64,
-    tag: u64,
-    payload: *const u8,
-    payload_len: usize,
-) -> u64 {
-    let payload = from_raw_parts(payload, payload_len);
-    on_buffers(t, t_len, p, p_len, "notify", |m| {
-        let target = if faults::is("only-the-slot-of-an-id") { same_slot(m, target) } else { target };
-        m.notify(target, tag, payload)
-    })
-}
-
-/// A fault: the id of whoever is in the slot now.
-fn same_slot(m: &Model, id: u64) -> u64 {
-    let slot = (id % ACTOR_FACTOR) as usize;
-    match &m.state {
-        Some(state) if state.actors.get(slot).is_some() => state.actors.id(slot),
-        _ => id,
-    }
-}
-
-#[no_mangle]
-unsafe extern "C" fn fg_receive(
-    t: *mut u64,
-    t_len: usize,
-    p: *mut u8,
-    p_len: usize,
-    sender: u64,
-    class: u64,
-    tag: u64,
-    wait: i64,
-) -> Received {
-    on_buffers(t, t_len, p, p_len, "receive", |m| {
-        let tag = if faults::is("head-instead-of-match") && tag < ANY_TAG { ANY_TAG } else { tag };
-        m.receive(sender, class, tag, wait)
-    })
-}
-
-#[no_mangle]
-unsafe extern "C" fn fg_exit(t: *mut u64, t_len: usize, p: *mut u8, p_len: usize, reason: u64) -> Ended {
-    let mut ended = on_buffers(t, t_len, p, p_len, "exit", |m| m.exit(reason));
-    if faults::is("counts-invented") {
-        ended.sent += ended.lost;
-        ended.lost = 0;
-    }
-    ended
-}
+calls!(stand_ins);
 
 #[no_mangle]
 unsafe extern "C" fn fg_write_tick(out: *mut u8, len: usize, id: u32) -> u64 {

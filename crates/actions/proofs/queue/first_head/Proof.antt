@@ -4,6 +4,7 @@ use mathlib.Core.Path.{_≡_, sym, _∙_}
 use mathlib.Core.Logic.{⊎-elim}
 use native.Mathlib.Omega.{arith}
 use Rattle.tables.specs.Columns.{QUEUED}
+use Rattle.tables.specs.Limits.{LEVELS}
 use Rattle.tables.specs.State.{head, view}
 use Rattle.rules.specs.Calls.{firstHead}
 use Rattle.actions.proofs.ActionLaws.{first-next, first-same}
@@ -12,10 +13,10 @@ use Rattle.actions.proofs.queue.first_head.Statement.{statement}
 use Rattle.actions.proofs.queue.first_head.Tie as tie
 
 abbrev Inv-loop : tie.InvT-loop
-Inv-loop t p k n first₀ level₀ first level = (level ≤ 4) × (n ≡ head (view k t p) QUEUED) × (first ≡ firstHead (view k t p) level)
+Inv-loop t p k n first₀ level₀ first level = (level ≤ LEVELS) × (n ≡ head (view k t p) QUEUED) × (first ≡ firstHead (view k t p) level)
 
 abbrev μ-loop : tie.MeasureT-loop
-μ-loop t p k n first₀ level₀ first level = 4 - level
+μ-loop t p k n first₀ level₀ first level = LEVELS - level
 
 loop-holds : tie.Need-loop-holds Inv-loop μ-loop
 unfolding firstHead
@@ -35,7 +36,7 @@ loop-again c =
     )
 
 returns : tie.Need-returns Inv-loop μ-loop
-returns c = let e : c .before .loop .level ≡ 4 = omega arith in rw e at (c .before .loop .inv .2)
+returns c = let e : c .before .loop .level ≡ LEVELS = omega arith in rw e at (c .before .loop .inv .2)
 
 pub first-head-spec : {M : Type 1} → statement M
 first-head-spec = tie.close (tie.spec Inv-loop μ-loop (λ c κs. search needs) loop-holds (λ c κs. search needs) (λ c. search needs) (λ c. search needs) loop-again returns)

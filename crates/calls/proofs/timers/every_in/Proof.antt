@@ -3,16 +3,16 @@ use native.Mathlib.Omega.{arith}
 use lib.Dec.{eqb, ltb}
 use borrow.Author.Tests.{ltb-false}
 use Rattle.tables.specs.Limits.{LONGEST}
-use Rattle.calls.proofs.CallLaws.{or-right}
 use borrow.Author.Needs.{needs}
 use Rattle.calls.proofs.timers.every_in.Statement.{statement}
 use Rattle.calls.proofs.timers.every_in.Tie as tie
+use Rattle.pools.proofs.BoolLaws.{neither}
 
 arm-in-requires : tie.Need-arm-in-requires
 arm-in-requires c κs =
     let c1 = c .before .before .before in
     let a = c1 .args in
-    (c1 .pre, λ h. omega (arith, ltb-false LONGEST (a .interval) (or-right (eqb (a .interval) 0) (ltb LONGEST (a .interval)) h)))
+    (c1 .pre, λ h. omega (arith, ltb-false LONGEST (a .interval) (neither (eqb (a .interval) 0) (ltb LONGEST (a .interval)) h .1)))
 
 returns : tie.Need-returns
 returns c =

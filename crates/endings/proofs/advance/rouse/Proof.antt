@@ -10,6 +10,7 @@ use borrow.Author.Tests.{eq-eqb, ne-eqb}
 use Rattle.tables.specs.Columns.{CLOCK}
 use Rattle.tables.specs.State.{State, head, view, Room}
 use Rattle.rules.specs.Calls.{rouse}
+use Rattle.rules.specs.Terms.{TIMEOUT}
 use Rattle.rules.proofs.Clock.{nextOverdue, rouse-step, rouse-zero, wake-clock}
 use Rattle.endings.specs.Asked.{Raised}
 use Rattle.endings.proofs.EndingLaws.{late-short, rouse-ends, rouse-turn}
@@ -52,7 +53,7 @@ loop-again c = let a = c .before .before .before .before .before .before .before
     let o : 0 < l .left = omega arith in (
       d .ensures .room,
       (h .0, rw (d .ensures .is, e) (rouse-step (a .k) (h .0) s (h .1) q)),
-      l .inv .2 ∙ sym (ap (λ (x : List ℕ). getD x 0 0) (ap (λ (u : State). u CLOCK) (d .ensures .is) ∙ wake-clock s (r - 1) 2)),
+      l .inv .2 ∙ sym (ap (λ (x : List ℕ). getD x 0 0) (ap (λ (u : State). u CLOCK) (d .ensures .is) ∙ wake-clock s (r - 1) TIMEOUT)),
       l .inv .3,
       rw (d .ensures .is, e) (sym (rouse-turn (a .k) s (l .left) o q) ∙ l .inv .4),
       search needs,

@@ -3,7 +3,8 @@ use native.Mathlib.Omega.{arith}
 use Rattle.tables.specs.State.{view}
 use Rattle.rules.specs.Calls.{farewell}
 use Rattle.rules.proofs.Messages.{clear, letGo-arrived}
-use Rattle.endings.proofs.EndingLaws.{clear-going, links-going, tells-told}
+use Rattle.rules.proofs.ExitLaws.{clear-going}
+use Rattle.endings.proofs.EndingLaws.{links-going, tells-told}
 use borrow.Author.Needs.{needs}
 use Rattle.endings.proofs.exit.farewell.Statement.{statement}
 use Rattle.endings.proofs.exit.farewell.Tie as tie
