@@ -6,7 +6,7 @@ use mathlib.Core.List.{List, [], _∷_}
 use native.Mathlib.Numerals.{add-one}
 use native.Mathlib.Omega.{arith}
 use lib.ListN.{length, getD, set, take, drop, length-take, drop-of-length-le}
-use lib.Seq.{set-out, sets, take-take}
+use lib.Seq.{set-out, sets}
 use lib.Dec.{eqb, ltb}
 use borrow.Author.Count.{below-more}
 use borrow.Author.Tests.{eqb-true, ltb-true, lt-ltb, le-ltb}
@@ -19,6 +19,7 @@ use Rattle.tables.specs.Columns.{ARRIVED, PAYLOAD, QUEUED}
 use Rattle.tables.specs.Limits.{ENTRY-BYTES, HEADER-BYTES}
 use Rattle.tables.specs.State.{State, head, with-col, poke, cut, view}
 use Rattle.tables.specs.Action.{push, pull, takeBit, freeBit, write}
+use Rattle.tables.proofs.ViewLaws.{payload-part}
 use Rattle.rules.specs.Terms.{headerAt}
 use Rattle.rules.specs.Actions.{dataFor, delist, enlist, fill, hasRoom, least, mailFor, unfill}
 use Rattle.rules.specs.Calls.{dropFirst, dropAll, firstHead, firstOf, levelHead}
@@ -70,18 +71,11 @@ module _ (s : State) (n : ℕ) where
   first-next h = rw (add-one n, le-ltb (firstHead s n) (head s QUEUED) h)
 
 -- ---- the payload
--- a part of the first N elements
-part-take : (N m n : ℕ) (l : List ℕ) → m + n ≤ N → take n (drop m (take N l)) ≡ take n (drop m l)
-part-take N zero n l h = take-take n N l (omega arith)
-part-take zero (suc m) n l h = absurd (omega arith)
-part-take (suc N) (suc m) n [] h = refl
-part-take (suc N) (suc m) n (x ∷ l) h = part-take N m n l (omega arith)
-
 module _ (k : Caps) (w p : List ℕ) (d : ℕ) where
   -- the header of an entry lies in the buffer
   pub header-lies : d < k .datas → headerAt (view k w p PAYLOAD) d ≡ field HEADER-BYTES (ENTRY-BYTES * d) p
-  unfolding headerAt view cut
-  header-lies h = ap ofLe (part-take (ENTRY-BYTES * k .datas) (ENTRY-BYTES * d) 4 p (omega arith))
+  unfolding headerAt
+  header-lies h = ap ofLe (payload-part k w p (ENTRY-BYTES * d) HEADER-BYTES (omega arith))
 
   -- past the last entry it is 0
   pub header-past : k .datas ≤ d → headerAt (view k w p PAYLOAD) d ≡ 0

@@ -1,26 +1,25 @@
 -- What a good state says of the numbers that the calls reckon with. Assumes nothing.
-use Prim.Native.Nat.{ℕ, zero, suc, _+_, _-_, _*_, _≤_, _<_}
-use mathlib.Core.Path.{_≡_, refl, sym, _∙_}
+use Prim.Native.Nat.{ℕ, _-_, _≤_, _<_}
+use mathlib.Core.Path.{_≡_, refl, sym, _∙_, ap}
 use mathlib.Core.Bool.{Bool, true, false, not, _&&_, _||_}
-use mathlib.Core.List.{List, [], _∷_}
+use mathlib.Core.List.{List}
 use native.Mathlib.Omega.{arith}
-use lib.ListN.{take, drop, List·getD-eq-default}
-use lib.Seq.{take-take}
+use lib.ListN.{List·getD-eq-default, getD}
 use lib.Dec.{eqb, ltb}
 use borrow.Author.Tests.{eq-eqb, ne-eqb, lt-ltb, le-ltb, eqb-true, eqb-false, ltb-true, ltb-false, not-true, not-false}
 use Rattle.pools.proofs.BoolLaws.{split}
 use Rattle.tables.specs.declared.Caps.{Caps}
 use Rattle.pools.specs.Bits.{free}
-use Rattle.tables.specs.Columns.{AGE, ARRIVED, CLOCK, DATA-FREE, DEADLINE, DUE, HAND, LENGTH, MAIL-DATA, MAIL-FREE, MONITOR-AGE, PAYLOAD, REST, TIMER-AGE, TIMER-OWNER}
-use Rattle.tables.specs.Limits.{ACTOR-FACTOR, DEADLINE-END, DUE-END, ENTRY-BYTES, OLDEST, PAYLOAD-MOST}
-use Rattle.tables.specs.State.{State, at, cut, head, poke, size, view, with-col, Room}
-use Rattle.tables.specs.Action.{freeBit, write}
-use Rattle.rules.specs.Actions.{letGo, unfill}
+use Rattle.tables.specs.Columns.{AGE, ARRIVAL, ARRIVED, CLOCK, DATA-FREE, DEADLINE, DUE, HAND, LENGTH, MAIL-DATA, MAIL-FREE, MONITOR-AGE, REST, TIMER-AGE, TIMER-OWNER}
+use Rattle.tables.specs.Limits.{ACTOR-FACTOR, DEADLINE-END, DUE-END, OLDEST, PAYLOAD-MOST}
+use Rattle.tables.specs.State.{State, at, head, size, view, Room}
+use Rattle.rules.specs.Actions.{letGo}
 use Rattle.rules.specs.Calls.{dataOf}
 use Rattle.rules.specs.Sound.{Ready}
 use Rattle.rules.specs.Terms.{runner}
 use Rattle.rules.proofs.Good.{Good}
 use Rattle.rules.proofs.Ready.{good-ready}
+use Rattle.rules.proofs.Frames.{wrote-letGo}
 
 -- ---- a test of the code on what it has read is the rule's
 module _ {r x : ℕ} (e : r ≡ x) where
@@ -125,26 +124,10 @@ runner-fits {k} {w} {p} {r} c e =
 -- ---- what stays while the hand is emptied
 module _ (s : State) (a : ℕ) where
   pub let-go-clock : head (letGo s a) CLOCK ≡ head s CLOCK
-  unfolding letGo unfill write freeBit poke with-col
-  let-go-clock = split (eqb (at s HAND a) 0) (λ q. rw q) (λ q. rw q)
+  let-go-clock = ap (λ (l : List ℕ). getD l 0 0) (wrote-letGo s a .cols CLOCK refl)
 
   pub let-go-arrived : head (letGo s a) ARRIVED ≡ head s ARRIVED
-  unfolding letGo unfill write freeBit poke with-col
-  let-go-arrived = split (eqb (at s HAND a) 0) (λ q. rw q) (λ q. rw q)
+  let-go-arrived = ap (λ (l : List ℕ). getD l 0 0) (wrote-letGo s a .cols ARRIVED refl)
 
   pub let-go-data : (j : ℕ) → dataOf (letGo s a) j ≡ dataOf s j
-  unfolding letGo unfill write freeBit poke with-col
-  let-go-data j = split (eqb (at s HAND a) 0) (λ q. rw q) (λ q. rw q)
-
--- ---- the payload
--- a part of the first N elements
-part-take : (N m n : ℕ) (l : List ℕ) → m + n ≤ N → take n (drop m (take N l)) ≡ take n (drop m l)
-part-take N zero n l h = take-take n N l (omega arith)
-part-take zero (suc m) n l h = absurd (omega arith)
-part-take (suc N) (suc m) n [] h = refl
-part-take (suc N) (suc m) n (x ∷ l) h = part-take N m n l (omega arith)
-
--- a part of the area is that part of the buffer
-pub payload-part : (k : Caps) (w p : List ℕ) (m n : ℕ) → m + n ≤ ENTRY-BYTES * k .datas → take n (drop m (view k w p PAYLOAD)) ≡ take n (drop m p)
-unfolding view cut
-payload-part k w p m n h = part-take (ENTRY-BYTES * k .datas) m n p h
+  let-go-data j = rw (wrote-letGo s a .cols MAIL-DATA refl, wrote-letGo s a .cols ARRIVAL refl)

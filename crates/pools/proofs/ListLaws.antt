@@ -7,13 +7,13 @@ use native.Mathlib.Nat.{zero-add, le-of-suc-le-suc}
 use native.Mathlib.Numerals.{add-one}
 use native.Mathlib.Omega.{arith}
 use mir.Val.{boolByte}
-use lib.ListN.{length, getD, take}
-use lib.Seq.{take-suc}
+use lib.ListN.{length, getD, take, drop}
+use lib.Seq.{take-suc, take-take}
 use lib.Dec.{eqb}
 use borrow.Author.Tests.{eqb-true, eq-eqb}
 use Rattle.pools.specs.Pool.{count, occurs}
 use Rattle.pools.specs.Lists.{keep, without}
-use Rattle.pools.proofs.BoolLaws.{split}
+use Rattle.pools.proofs.BoolLaws.{split, flag≤}
 
 -- ---- how often e stands in a list
 module _ (e : ℕ) where
@@ -146,13 +146,12 @@ module _ {A : Type 0} (p q : A → Bool) where
       split (q x) (λ r. split (p x) (λ s. rw (r, s, keep-keep l)) (λ s. rw (r, s, keep-keep l))) (λ r. rw (r, keep-keep l))
 
 -- ---- the same of the numbers that stand in a list
-
 -- e stands in a list that begins with e
-occurs-head : (e : ℕ) (l : List ℕ) → 0 < occurs e (e ∷ l)
+pub occurs-head : (e : ℕ) (l : List ℕ) → 0 < occurs e (e ∷ l)
 occurs-head e l = occurs-pos e (e ∷ l) 0 (omega arith) refl
 
 -- what stands in a list stands in a longer one
-occurs-tail : (e d : ℕ) (l : List ℕ) → 0 < occurs e l → 0 < occurs e (d ∷ l)
+pub occurs-tail : (e d : ℕ) (l : List ℕ) → 0 < occurs e l → 0 < occurs e (d ∷ l)
 unfolding occurs
 occurs-tail e d l h = omega arith
 
@@ -170,3 +169,16 @@ keep-all-on p l h = keep-same-on p (λ e. true) l h ∙ keep-all (λ e. true) l 
 -- where nothing that stands in it passes, no list
 pub keep-none-on : (p : ℕ → Bool) (l : List ℕ) → ((e : ℕ) → 0 < occurs e l → p e ≡ false) → keep p l ≡ []
 keep-none-on p l h = keep-same-on p (λ e. false) l h ∙ keep-none (λ e. false) l (λ e. refl)
+
+-- a number stands in a list at most as often as the list is long
+pub occurs-length : (e : ℕ) (l : List ℕ) → occurs e l ≤ length l
+unfolding occurs
+occurs-length e [] = omega arith
+occurs-length e (x ∷ l) = omega (arith, occurs-length e l, flag≤ (eqb x e))
+
+-- ---- a part of the first N elements is a part of the list
+pub part-take : (m n N : ℕ) (l : List ℕ) → m + n ≤ N → take n (drop m (take N l)) ≡ take n (drop m l)
+part-take zero n N l h = take-take n N l (omega arith)
+part-take (suc m) n zero l h = absurd (omega arith)
+part-take (suc m) n (suc N) [] h = refl
+part-take (suc m) n (suc N) (x ∷ l) h = part-take m n N l (omega arith)

@@ -41,7 +41,7 @@ use Rattle.rules.proofs.TieLaws
 use Rattle.rules.proofs.TieLaws.{below, ends, keep-in, set-cond, used-inside, worn-ends}
 use Rattle.rules.proofs.AgreeLaws.{agrees-links, agrees-monitors, agrees-people}
 use Rattle.rules.proofs.Frame.{wrote-none}
-use Rattle.rules.proofs.Frames.{wrote-leave, wrote-tie}
+use Rattle.rules.proofs.Frames.{room-still, wrote-leave, wrote-tie, wrote-unwatch}
 use Rattle.rules.proofs.Ties.{dropMonitors-ends, dropMonitors-keeps, dropTimers-ends, dropTimers-keeps, unwatch-ends}
 use Rattle.rules.proofs.TiesAgree.{bond-joins, bond-used, dropMonitors-agrees, dropTimers-agrees, eye-used, linked-once, linked-same, untie-agrees, unwatch-agrees, up-id}
 use Rattle.rules.proofs.Messages.{clear}
@@ -106,11 +106,6 @@ module _ (k : Caps) (l : Ledger) (ns : List Message) (p : Link → Bool) (q : Mo
       split (hasRoom k (t .state)) (λ y. rw (tell-sent k t b me reason monitor y) (told-sent y)) (λ y. rw (tell-lost k t b me reason monitor y) (told-lost y))
 
 -- ---- a link ends
--- the room for messages is as it was
-tie-room : (k : Caps) (s : State) (e : ℕ) → hasRoom k (tie s e 0 0) ≡ hasRoom k s
-unfolding tie poke with-col
-tie-room k s e = refl
-
 -- a link with slot b ends on both sides
 untie-along : (k : Caps) (l : Ledger) (ns : List Message) (p : Link → Bool) (q : Monitor → Bool) (t : Told) (a b me : ℕ) → Going k a me (t .state) → alive (t .state STATE) b ≡ true →
     linkOf k (t .state) (suc a) (suc b) < k .links → Along k l ns p q t →
@@ -126,7 +121,7 @@ untie-along k l ns p q t a b me w there m r =
           (untie-agrees k c s (w .good) (r .agrees) e (Reckon.joins me (actorId s b)) m (λ d u n.
           subst (λ (i : ℕ). Reckon.joins i (actorId s b) (linkAt s d) ≡ eqb d e) (w .id) (linked-once k c s (w .good) (r .agrees) a b (going-alive w) there m d u n)));
       count = r .count;
-      full = λ h. tie-room k s e ∙ r .full h;
+      full = λ h. room-still k (wrote-tie (wrote-none s) e 0 0) refl refl ∙ r .full h;
     }
 
 -- ---- the links of slot a
@@ -185,11 +180,6 @@ module _ (k : Caps) (l : Ledger) (s : State) (a me reason : ℕ) (q : Monitor �
   links-along (suc n) w r = link-along n (cutLinks k a me reason n (told 0 0 s)) (cutLinks-cuts k s (told 0 0 s) a me reason n (cut-none k s a me w)) (links-along n w r)
 
 -- ---- a monitor ends
--- the room for messages is as it was
-unwatch-room : (k : Caps) (s : State) (i : ℕ) → hasRoom k (unwatch s i) ≡ hasRoom k s
-unfolding unwatch poke with-col
-unwatch-room k s i = refl
-
 -- monitor i ends on both sides
 unwatch-along : (k : Caps) (l : Ledger) (ns : List Message) (p : Link → Bool) (q : Monitor → Bool) (t : Told) (i : ℕ) → Good k (t .state) → i < k .monitors → Along k l ns p q t →
     Along k l ns p (λ m. q m || eqb (m .id) (monitorId (t .state) i)) (told (t .sent) (t .lost) (unwatch (t .state) i))
@@ -202,7 +192,7 @@ unwatch-along k l ns p q t i g m r =
       worn = ws;
       agrees = subst (λ (x : List Monitor). Agrees k (withTies c (ties (c .ties .links) x ws)) (unwatch s i)) (those-then q (λ m. eqb (m .id) (monitorId s i)) (l .ties .monitors)) (unwatch-agrees k c s i g (r .agrees) m);
       count = r .count;
-      full = λ h. unwatch-room k s i ∙ r .full h;
+      full = λ h. room-still k (wrote-unwatch (wrote-none s) i) refl refl ∙ r .full h;
     }
 
 -- ---- the monitors on slot a
@@ -456,11 +446,6 @@ watcher-left n e seen x v h d =
     (λ q. rw q (split seen (λ p. rw (p, ne-eqb 0 v (λ z. d (sym z)))) (λ p. rw p)))
     (λ q. rw (q, h q) (split (seen || eqb 0 v) (λ p. rw p) (λ p. rw p)))
 
--- the slot that is given back leaves the monitors as they are
-leave-eyes : (s : State) (a : ℕ) → (leave s a WATCHER ≡ s WATCHER) × (leave s a MONITOR-AGE ≡ s MONITOR-AGE)
-unfolding leave poke with-col
-leave-eyes s a = (refl, refl)
-
 module _ (k : Caps) (s : State) (l : Ledger) (g : Good k s) (r : Agrees k l s) (a reason : ℕ) (run : runner s ≡ suc a) where
   -- the watchers that are left
   watchers-left : (e : ℕ) → at (dropped k a (farewell k a (actorId s a) reason s .state)) WATCHER e ≡ cond (seenBy (clear s a) a e || eqb (at (clear s a) WATCHER e) (suc a)) 0 (at (clear s a) WATCHER e)
@@ -515,7 +500,7 @@ module _ (k : Caps) (s : State) (l : Ledger) (g : Good k s) (r : Agrees k l s) (
       let a₂ : Agrees k l₂ m = subst (λ (i : ℕ). Agrees k (endMonitors (λ m. eqb (m .watcher) i) l₁) m) (w .going .id) (dropMonitors-agrees k l₁ u gu (z .agrees) a (going-alive (w .going))) in
       let a₃ : Agrees k l₃ f = subst (λ (i : ℕ). Agrees k (endTimers (λ t. eqb (t .owner) i) l₂) f) im (dropTimers-agrees k l₂ m gm a₂ a vm) in
       let a₄ : Agrees k (gone me l₃) (leave f a) = subst (λ (i : ℕ). Agrees k (gone i l₃) (leave f a)) if (leave-agrees k f l₃ a gf a₃ vf) in
-      let v = leave-eyes f a in
+      let v = wrote-leave (wrote-none f) a .cols in
       ties-again k (gone me l₃) (leave f a)
       (those (λ x. not (eqb (x .one) me || eqb (x .two) me)) (l .ties .links))
       (those (λ m. not (eqb (m .target) me || eqb (m .watcher) me)) (l .ties .monitors))
@@ -523,7 +508,7 @@ module _ (k : Caps) (s : State) (l : Ledger) (g : Good k s) (r : Agrees k l s) (
       (subst (λ (i : ℕ). those (λ x. not (eqb (x .one) i || eqb (x .two) i)) (l .ties .links) ≡ those (λ x. not (linkGone k s₀ a i (k .actors) x)) (l .ties .links)) (w₀ .id) (links-stay k s₀ l₀ (w₀ .good) r₀ a (going-alive w₀)))
       (subst (λ (i : ℕ). those (λ m. not (eqb (m .target) i || eqb (m .watcher) i)) (l .ties .monitors) ≡ those (λ m. not (eqb (m .watcher) i)) (those (λ m. not (eyeGone s₀ a (k .monitors) m)) (l .ties .monitors))) (w₀ .id) (eyes-stay k s₀ l₀ (w₀ .good) r₀ a (going-alive w₀)))
       (subst (λ (i : ℕ). Exact (l .ties .worn ++ wornBy MONITOR-FACTOR (map (λ m. m .id) (those (λ m. eqb (m .target) i || eqb (m .watcher) i) (l .ties .monitors)))) (isWorn (leave f a WATCHER) (leave f a MONITOR-AGE))) (w₀ .id)
-      (eyes-worn k s₀ l₀ (w₀ .good) r₀ a (going-alive w₀) (leave f a) (v .1 ∙ ages-left) (λ e. ap (λ (c : List ℕ). getD c e 0) (v .0) ∙ watchers-left e)))
+      (eyes-worn k s₀ l₀ (w₀ .good) r₀ a (going-alive w₀) (leave f a) (v MONITOR-AGE refl ∙ ages-left) (λ e. ap (λ (c : List ℕ). getD c e 0) (v WATCHER refl) ∙ watchers-left e)))
       a₄
 
 -- its tests are the reckoning's

@@ -15,7 +15,7 @@ use Rattle.pools.specs.Bits.{free, taken, released, WORD-BITS}
 use Rattle.pools.specs.Lists.{keep}
 use Rattle.pools.proofs.BoolLaws.{split, flag≤}
 use Rattle.pools.proofs.PoolLaws.{count-same}
-use Rattle.pools.proofs.ListLaws.{occurs-count, occurs-once, occurs-pos}
+use Rattle.pools.proofs.ListLaws.{occurs-count, occurs-once, occurs-pos, part-take}
 use Rattle.pools.proofs.ExactLaws.{exact-keep, exact-length}
 use Rattle.pools.proofs.FreeLaws.{free-inside, released-other, released-same, taken-other, taken-same}
 use Rattle.records.specs.Bytes.{le, ofLe}
@@ -36,12 +36,6 @@ unfolding occurs
 occurs-set x [] i v h = absurd (omega arith)
 occurs-set x (y ∷ l) zero v h = omega arith
 occurs-set x (y ∷ l) (suc i) v h = omega (arith, occurs-set x l i v (le-of-suc-le-suc h))
-
--- at most as often as there are words
-pub occurs-length : (x : ℕ) (l : List ℕ) → occurs x l ≤ length l
-unfolding occurs
-occurs-length x [] = omega arith
-occurs-length x (y ∷ l) = omega (arith, occurs-length x l, flag≤ (eqb y x))
 
 -- ---- a list of entries, and what a column says of them
 -- how often d stands among the words of a list of entries
@@ -77,13 +71,6 @@ occurs-column d u col es x past same =
 abbrev pub bytesAt : List ℕ → ℕ → List ℕ
 bytesAt p d = take ENTRY-BYTES (drop (ENTRY-BYTES * d) p)
 
--- a part of the first words of a list
-take-drop-take : (m n N : ℕ) (l : List ℕ) → m + n ≤ N → take n (drop m (take N l)) ≡ take n (drop m l)
-take-drop-take zero n N l h = take-take n N l (omega arith)
-take-drop-take (suc m) n zero l h = absurd (omega arith)
-take-drop-take (suc m) n (suc N) [] h = refl
-take-drop-take (suc m) n (suc N) (x ∷ l) h = take-drop-take m n N l (omega arith)
-
 module _ (p : List ℕ) (d : ℕ) where
   -- the header is read from the entry's bytes
   pub header-bytes : headerAt p d ≡ ofLe (take 4 (bytesAt p d))
@@ -96,7 +83,7 @@ module _ (p : List ℕ) (d : ℕ) where
 
   -- and the payload
   pub text-bytes : (n : ℕ) → n ≤ PAYLOAD-MOST → take n (drop (ENTRY-BYTES * d + HEADER-BYTES) p) ≡ take n (drop 4 (bytesAt p d))
-  text-bytes n h = ap (take n) (sym (drop-drop 4 (ENTRY-BYTES * d) p)) ∙ sym (take-drop-take 4 n ENTRY-BYTES (drop (ENTRY-BYTES * d) p) (omega arith))
+  text-bytes n h = ap (take n) (sym (drop-drop 4 (ENTRY-BYTES * d) p)) ∙ sym (part-take 4 n ENTRY-BYTES (drop (ENTRY-BYTES * d) p) (omega arith))
 
 module _ (p q : List ℕ) (d : ℕ) (e : bytesAt q d ≡ bytesAt p d) where
   -- an entry with the same bytes has the same header

@@ -17,7 +17,7 @@ use Rattle.pools.proofs.SlotLaws.{age-of-id, id-pos, of-live, slot-of-id}
 use Rattle.pools.specs.Bits.{free, taken, released, WORD-BITS}
 use Rattle.pools.proofs.BoolLaws.{split, true-false, and-left, and-right, flag-pos, neither}
 use Rattle.pools.proofs.PoolLaws.{lowest-at, lowest-first}
-use Rattle.pools.proofs.ListLaws.{occurs-place, occurs-pos}
+use Rattle.pools.proofs.ListLaws.{occurs-length, occurs-place, occurs-pos}
 use Rattle.pools.proofs.FreeLaws.{free-inside, released-other, released-same, taken-other, taken-same}
 use Rattle.records.specs.Bytes.{le}
 use Rattle.records.specs.Header.{classOf, markOf, packed, tagOf}
@@ -49,7 +49,7 @@ use Rattle.rules.proofs.Patch.{_by_also_, done, patch, patch-living}
 use Rattle.rules.proofs.ColumnLaws.{alive-begins, alive-below, alive-of, alive-same, each-set, listed-exact, listed-joins, listed-leaves, listed-room, once-joins, of-alive, once-leaves, other, set-zero}
 use Rattle.rules.proofs.LedgerLaws.{alive-age, alive-slot, runner-alive, runs-alive, runs-at}
 use Rattle.rules.proofs.Running.{wake-keeps}
-use Rattle.rules.proofs.MessageLaws.{DataAt, Wiped, Written, bits-free, bits-take, data-same, header-same, held-apart, held-drop, held-fill, held-let, held-once, held-pass, held-used, occurs-column, occurs-length, occurs-set, wiped, written}
+use Rattle.rules.proofs.MessageLaws.{DataAt, Wiped, Written, bits-free, bits-take, data-same, header-same, held-apart, held-drop, held-fill, held-let, held-once, held-pass, held-used, occurs-column, occurs-set, wiped, written}
 
 -- ---- a data entry is freed
 -- the state with data entry d freed, where q is the payload area with that entry wiped

@@ -27,7 +27,7 @@ use Rattle.pools.specs.Slot.{idOf, slotOf, unused}
 use Rattle.pools.proofs.BoolLaws.{split, flag≤, true-false, and-left, and-right, same-bool, neither}
 use Rattle.pools.proofs.PoolLaws.{lowest-at, lowest-first}
 use Rattle.pools.proofs.SlotLaws.{live-is, of-live}
-use Rattle.pools.proofs.ListLaws.{keep-all-on, keep-same-on, length-keep-le, length-without, occurs-append, occurs-once, occurs-place, occurs-pos, occurs-without}
+use Rattle.pools.proofs.ListLaws.{keep-all-on, keep-same-on, length-keep-le, length-without, occurs-append, occurs-head, occurs-once, occurs-place, occurs-pos, occurs-tail, occurs-without}
 use Rattle.pools.proofs.ExactLaws.{exact-keep, exact-put, exact-same, exact-used}
 use Rattle.records.specs.Header.{classOf, packed, tagOf}
 use Rattle.records.specs.Bytes.{le}
@@ -50,7 +50,7 @@ use Rattle.rules.proofs.Frame.{Wrote, wrote-none, wrote-poke, wrote-sti
 use Rattle.rules.proofs.Frames.{MAILED, beside-dropFirst, wrote-await, wrote-enlist, wrote-letGo}
 use Rattle.rules.proofs.Good.{Good}
 use Rattle.rules.proofs.ColumnLaws.{alive-below, alive-of, alive-same, each-set, listed-room, other, set-zero, worn-same}
-use Rattle.rules.proofs.LedgerLaws.{idle-same, known-same, runner-alive, running-is, but-map, first-at, first-map, id-eqb, map-same-on, palm-owner, occurs-later, those-keep, those-map, message-room, runs-alive, runs-at}
+use Rattle.rules.proofs.LedgerLaws.{idle-same, known-same, runner-alive, running-is, but-map, first-at, first-map, id-eqb, map-same-on, palm-owner, those-keep, those-map, message-room, runs-alive, runs-at}
 use Rattle.rules.proofs.MessageLaws.{Wiped, Written, bytesAt, header-same, held-apart, held-once, held-palm, held-used, occurs-column, text-same}
 use Rattle.rules.proofs.Messages.{Fine, boxes-exact, clear, data-below, data-free, dataOf-below, dataOf-is, delist-wrote, drop-good, drop-none, dropFirst-is, dropFirst-keeps, dropFirst-none, filled, handOver-keeps, hears-waits, ink, ink-is, joined, joined-keeps, letGo-empty, let-good, letGo-arrived, letGo-keeps, mail-below, mail-column, mail-free, mailOf, mailOf-below, notify-fine, post-heard, post-unheard, unfill-is, unfilled, wake-alive, wake-deaf, wipe, wipe-is, wrote-filled, wrote-unfilled}
 use Rattle.rules.proofs.Running.{wake-keeps}
@@ -249,19 +249,15 @@ module _ (k : Caps) (s : State) (l : Ledger) (g : Good k s) (r : Agrees k l s) (
       message-same s (enlist (filled s d sender (length payload) q) e a d) (actorId s b) (at s HAND b - 1)
       (other (s SENDER) d sender (at s HAND b - 1) c) (other (s LENGTH) d (length payload) (at s HAND b - 1) c) (w .apart (at s HAND b - 1) c) (palm-long k s g b f)
 
-  -- the hands' column is as it was
-  enlist-palms : enlist (filled s d sender (length payload) q) e a d HAND ≡ s HAND
-  unfolding enlist push poke with-col takeBit
-  enlist-palms = refl
-
   -- the reckoning has it at the tail
   enlist-agrees : Agrees k (sent (message (actorId s a) sender (classOf head′) (tagOf head′) payload ∷ []) l) (enlist (filled s d sender (length payload) q) e a d)
   enlist-agrees =
       let t : State = enlist (filled s d sender (length payload) q) e a d in
-      agrees-mail k l s t good r (wrote-within MAILED (wrote-enlist (wrote-filled (wrote-none s) d sender (length payload) q (w .long)) e a d) refl) (l .mail .boxes ++ (message (actorId s a) sender (classOf head′) (tagOf head′) payload ∷ [])) (l .mail .hands) (r .mail .palms)
+      let v = wrote-enlist (wrote-filled (wrote-none s) d sender (length payload) q (w .long)) e a d in
+      agrees-mail k l s t good r (wrote-within MAILED v refl) (l .mail .boxes ++ (message (actorId s a) sender (classOf head′) (tagOf head′) payload ∷ [])) (l .mail .hands) (r .mail .palms)
       (ap₂ (λ (x y : List Message). x ++ y) (r .mail .boxes ∙ map-same-on (boxAt s) (boxAt t) (arrivals s) enlist-old) (ap (λ (m : Message). m ∷ []) enlist-new)
       ∙ sym (map-append (boxAt t) (arrivals s) (e ∷ [])) ∙ ap (map (boxAt t)) (sym enlist-arrivals))
-      (rw enlist-palms (r .mail .allPalms)) (r .mail .hands ∙ map-same-on (handAt s) (handAt t) (r .mail .palms) enlist-hands)
+      (rw (v .cols HAND refl) (r .mail .allPalms)) (r .mail .hands ∙ map-same-on (handAt s) (handAt t) (r .mail .palms) enlist-hands)
 
 -- a message that its target does not wait for
 joined-agrees : (k : Caps) (s : State) (l : Ledger) (a : ℕ) → Good k s → Agrees k l s → alive (s STATE) a ≡ true → (sender head : ℕ) (payload : List ℕ) → hasRoom k s ≡ true → Fine (s AGE) sender head payload →
@@ -425,18 +421,14 @@ module _ (k : Caps) (s : State) (l : Ledger) (g : Good k s) (r : Agrees k l s) (
           message-same s (unfilled (delist s j) (dataOf s j) q) (actorId s b) (at s HAND b - 1)
           (other (s SENDER) (dataOf s j) 0 (at s HAND b - 1) c) (other (s LENGTH) (dataOf s j) 0 (at s HAND b - 1) c) (w .apart (at s HAND b - 1) c) (palm-long k s g b f)
 
-      -- the hands' column is as it was
-      drop-palms : unfilled (delist s j) (dataOf s j) q HAND ≡ s HAND
-      unfolding delist pull poke with-col freeBit
-      drop-palms = refl
-
       -- the reckoning without it
       drop-agrees : Agrees k (withMail l (mail (butFirst p (l .mail .boxes)) (l .mail .hands))) (unfilled (delist s j) (dataOf s j) q)
       drop-agrees =
           let t : State = unfilled (delist s j) (dataOf s j) q in
-          agrees-mail k l s t (drop-good k s g j jl q w) r (wrote-within MAILED (wrote-unfilled (delist-wrote k s g j jl) (dataOf s j) q (w .long ∙ sym (delist-wrote k s g j jl .long PAYLOAD))) refl) (butFirst p (l .mail .boxes)) (l .mail .hands) (r .mail .palms)
+          let v = wrote-unfilled (delist-wrote k s g j jl) (dataOf s j) q (w .long ∙ sym (delist-wrote k s g j jl .long PAYLOAD)) in
+          agrees-mail k l s t (drop-good k s g j jl q w) r (wrote-within MAILED v refl) (butFirst p (l .mail .boxes)) (l .mail .hands) (r .mail .palms)
           (but-boxes ∙ map-same-on (boxAt s) (boxAt t) (without j (arrivals s)) drop-box ∙ ap (map (boxAt t)) (sym drop-list))
-          (rw drop-palms (r .mail .allPalms)) (r .mail .hands ∙ map-same-on (handAt s) (handAt t) (r .mail .palms) drop-hand)
+          (rw (v .cols HAND refl) (r .mail .allPalms)) (r .mail .hands ∙ map-same-on (handAt s) (handAt t) (r .mail .palms) drop-hand)
 
 -- ---- the first message of an actor is dropped
 -- the reckoning without the first message to an actor
@@ -447,7 +439,7 @@ toId id m = eqb (m .to) id
 but-none : (p : ℕ → Bool) (es : List ℕ) → ((e : ℕ) → 0 < occurs e es → p e ≡ false) → butFirst p es ≡ es
 unfolding butFirst
 but-none p [] h = refl
-but-none p (x ∷ es) h = rw (h x (occurs-pos x (x ∷ es) 0 (omega arith) refl)) (ap (λ (l : List ℕ). x ∷ l) (but-none p es (λ e o. h e (occurs-later e x es o))))
+but-none p (x ∷ es) h = rw (h x (occurs-head x es)) (ap (λ (l : List ℕ). x ∷ l) (but-none p es (λ e o. h e (occurs-tail e x es o))))
 
 -- an arrival is an actor's in the reckoning where it is its slot's in the tables
 box-own : (k : Caps) (s : State) (a : ℕ) → Good k s → alive (s STATE) a ≡ true → (e : ℕ) → 0 < occurs e (arrivals s) → eqb (actorId s (at s MAIL-OWNER e - 1)) (actorId s a) ≡ eqb (at s MAIL-OWNER e) (suc a)

@@ -3,9 +3,9 @@ use Prim.Native.Nat.{ℕ, zero, suc, _+_, _*_, _≤_, _<_}
 use native.Mathlib.Omega.{arith}
 use mathlib.Core.Path.{_≡_, refl, sym, ap, _∙_}
 use mathlib.Core.Bool.{Bool, true, false, not, _&&_, _||_}
-use mathlib.Core.List.{List, [], _∷_}
+use mathlib.Core.List.{List, []}
 use lib.ListN.{take, drop, length-take, drop-of-length-le}
-use lib.Seq.{take-take, getD-take}
+use lib.Seq.{getD-take}
 use lib.Dec.{eqb}
 use lib.Bits.{bitOr, or-add-and, and-le-r, or-zero-l}
 use borrow.Author.Tests.{ne-eqb}
@@ -18,6 +18,7 @@ use Rattle.tables.specs.declared.Caps.{Caps}
 use Rattle.tables.specs.Columns.{PAYLOAD}
 use Rattle.tables.specs.Limits.{ENTRY-BYTES, HEADER-BYTES}
 use Rattle.tables.specs.State.{view, cut}
+use Rattle.pools.proofs.ListLaws.{part-take}
 
 -- ---- bytes joined by OR are zero where both are
 or-some : (x y : ℕ) → eqb (bitOr (suc x) y) 0 ≡ false
@@ -27,18 +28,12 @@ pub or-test : (x y : ℕ) → eqb (bitOr x y) 0 ≡ eqb x 0 && eqb y 0
 or-test zero y = rw or-zero-l
 or-test (suc x) y = or-some x y ∙ sym (rw (ne-eqb (suc x) 0 (λ e. omega arith)))
 
--- ---- a part of a list's first N is a part of the list
-part-inside : (m n N : ℕ) (l : List ℕ) → m + n ≤ N → take n (drop m (take N l)) ≡ take n (drop m l)
-part-inside zero n N l h = take-take n N l (omega arith)
-part-inside (suc m) n zero l h = absurd (omega arith)
-part-inside (suc m) n (suc N) [] h = refl
-part-inside (suc m) n (suc N) (x ∷ l) h = part-inside m n N l (omega arith)
-
+-- ---- what lies in the buffer
 module _ (k : Caps) (w p : List ℕ) where
   -- the header of a data entry, in the buffer; there is none past the last
   pub header-in : (d : ℕ) → d < k .datas → field HEADER-BYTES (ENTRY-BYTES * d) p ≡ header (view k w p) d
   unfolding view cut headerAt
-  header-in d h = ap ofLe (sym (part-inside (ENTRY-BYTES * d) 4 (ENTRY-BYTES * k .datas) p (omega arith)))
+  header-in d h = ap ofLe (sym (part-take (ENTRY-BYTES * d) 4 (ENTRY-BYTES * k .datas) p (omega arith)))
 
   pub header-out : (d : ℕ) → k .datas ≤ d → 0 ≡ header (view k w p) d
   unfolding view cut headerAt

@@ -4,7 +4,7 @@ use native.Mathlib.Nat.{zero-add}
 use native.Mathlib.Numerals.{add-one}
 use native.Mathlib.Omega.{arith}
 use mathlib.Core.Path.{_≡_, sym, ap, _∙_}
-use mathlib.Core.List.{List, [], _∷_}
+use mathlib.Core.List.{List}
 use mir.Val.{boolByte}
 use lib.ListN.{length, getD, set, take, replicate, length-take, length-replicate, getD-replicate}
 use lib.Seq.{take-suc, take-all, getD-set-same, getD-set-other}
@@ -12,8 +12,8 @@ use lib.Dec.{eqb, lit<}
 use borrow.Author.Tests.{eqb-true, eqb-false}
 use Rattle.pools.specs.Pool.{occurs}
 use Rattle.pools.specs.Bits.{free}
-use Rattle.pools.proofs.BoolLaws.{split, flag≤}
-use Rattle.pools.proofs.ListLaws.{occurs-snoc}
+use Rattle.pools.proofs.BoolLaws.{split}
+use Rattle.pools.proofs.ListLaws.{occurs-length, occurs-snoc}
 use Rattle.rules.specs.Rule.{test, each, eq, Holds}
 use Rattle.rules.specs.Sound.{headRule, slotRule, boxRule, heldRule, plainRules}
 use Rattle.rules.proofs.RuleLaws.{all-same}
@@ -29,13 +29,8 @@ use Rattle.sound.specs.Tallies.{Countable, Counted, stands, rowRule}
 occurs-more : (list : List ℕ) (i a : ℕ) → i < length list → occurs a (take (i + 1) list) ≡ occurs a (take i list) + boolByte (eqb (getD list i 0) a)
 occurs-more list i a h = rw (add-one i, take-suc list i 0 h, occurs-snoc a (take i list) (getD list i 0))
 
-occurs-few : (e : ℕ) (l : List ℕ) → occurs e l ≤ length l
-unfolding occurs
-occurs-few e [] = omega arith
-occurs-few e (x ∷ l) = omega (arith, flag≤ (eqb x e), occurs-few e l)
-
 pub occurs-first : (e n : ℕ) (l : List ℕ) → occurs e (take n l) ≤ n
-occurs-first e n l = omega (arith, occurs-few e (take n l), length-take n l)
+occurs-first e n l = omega (arith, occurs-length e (take n l), length-take n l)
 
 -- ---- the row
 module _ (list row : List ℕ) where

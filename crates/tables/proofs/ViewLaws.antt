@@ -10,6 +10,7 @@ use lib.Seq.{set-out, getD-take, take-all, drop-drop, sets, length-sets, paste, 
 use lib.Dec.{eqb, ltb}
 use borrow.Author.Tests.{eqb-true, eqb-false, ne-eqb, ltb-true, ltb-false, lt-ltb, le-ltb}
 use Rattle.pools.proofs.BoolLaws.{split}
+use Rattle.pools.proofs.ListLaws.{part-take}
 use Rattle.tables.specs.Limits.{ENTRY-BYTES, WORDS-MOST}
 use Rattle.tables.specs.declared.Caps.{Caps}
 use Rattle.tables.specs.Columns.{PAST, PAYLOAD, REST}
@@ -132,6 +133,11 @@ pub room-paste : (k : Caps) (w p l : List ℕ) (m n : ℕ) → m + n ≤ length 
 room-paste k w p l m n h g r = record { caps = r .caps; words = rw (length-paste w m l n h g) (r .words); bytes = r .bytes }
 
 -- ---- the payload
+-- a part of the area is that part of the buffer
+pub payload-part : (k : Caps) (w p : List ℕ) (m n : ℕ) → m + n ≤ ENTRY-BYTES * k .datas → take n (drop m (view k w p PAYLOAD)) ≡ take n (drop m p)
+unfolding view cut
+payload-part k w p m n h = part-take m n (ENTRY-BYTES * k .datas) p h
+
 module _ (k : Caps) (w p : List ℕ) (r : Room k w p) where
   -- a byte of the area
   pub view-getP : (i : ℕ) → i < ENTRY-BYTES * k .datas → getD (view k w p PAYLOAD) i 0 ≡ getD p i 0
