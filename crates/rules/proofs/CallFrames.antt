@@ -8,14 +8,14 @@ use lib.Dec.{eqb, ltb}
 use Rattle.pools.specs.Slot.{slotOf}
 use Rattle.pools.proofs.BoolLaws.{split}
 use Rattle.tables.specs.declared.Caps.{Caps}
-use Rattle.tables.specs.Columns.{ARRIVED, CLOCK, DEADLINE, DUE, HAND, PRIORITY, QUEUE, QUEUED, REASON, RUNNING, STATE, TIMER-OWNER, WATCHED, WATCHER}
+use Rattle.tables.specs.Columns.{ARRIVED, CLOCK, HAND, PRIORITY, QUEUE, QUEUED, REASON, RUNNING, STATE, TIMER-OWNER, WATCHED, WATCHER}
 use Rattle.tables.specs.Limits.{ACTOR-FACTOR, LEVELS}
 use Rattle.tables.specs.State.{State, at, head}
 use Rattle.rules.specs.Terms.{TIMEOUT, runner}
-use Rattle.rules.specs.Actions.{earliest, hasRoom, letGo}
-use Rattle.rules.specs.Calls.{Fired, Told, advanceEntry, armEntry, cancelEntry, cutLink, cutLinks, cutMonitor, cutMonitors, demonitorEntry, dropMonitors, dropTimers, exitEntry, farewell, fire, fireAll, firstHead, firstMatch, handOver, linkEntry, linkOf, monitorEntry, nextEntry, notAtAll, notifyEntry, rearm, receiveBare, receiveEntry, rouse, tell, unlinkEntry, yieldEntry}
+use Rattle.rules.specs.Actions.{hasRoom}
+use Rattle.rules.specs.Calls.{Fired, Told, advanceEntry, armEntry, cancelEntry, cutLink, cutLinks, cutMonitor, cutMonitors, demonitorEntry, dropMonitors, dropTimers, exitEntry, farewell, fire, fireAll, firstHead, firstMatch, handOver, linkEntry, linkOf, monitorEntry, nextDue, nextEntry, nextOverdue, notAtAll, notifyEntry, rearm, receiveBare, receiveEntry, rouse, tell, unlinkEntry, yieldEntry}
 use Rattle.rules.proofs.Frame.{Beside, beside-of, beside-over, beside-poke, beside-still, beside-within, wrote-none, wrote-poke}
-use Rattle.rules.proofs.Frames.{LINKED, MAILED, POSTED, TIMED, WATCHES, beside-delist, beside-dropAll, beside-run, wrote-arm, wrote-await, wrote-disarm, wrote-leave, wrote-letGo, wrote-post, wrote-ready, wrote-rearm, wrote-tie, wrote-unwait, wrote-unwatch, wrote-watch}
+use Rattle.rules.proofs.Frames.{LINKED, MAILED, POSTED, TIMED, WATCHES, beside-delist, beside-emptied, beside-run, wrote-arm, wrote-await, wrote-disarm, wrote-leave, wrote-letGo, wrote-post, wrote-ready, wrote-rearm, wrote-tie, wrote-unwait, wrote-unwatch, wrote-watch}
 
 -- ---- exit
 -- a notice, sent or lost
@@ -73,14 +73,14 @@ EXITED = RUNNING ∷ PRIORITY ∷ HAND ∷ (TIMED ++ CUT)
 beside-farewell : (k : Caps) (a me reason : ℕ) (s : State) → Beside EXITED s (farewell k a me reason s .state)
 unfolding farewell
 beside-farewell k a me reason s =
-    beside-over EXITED (beside-over MAILED (beside-of (wrote-letGo s a)) (beside-dropAll (head s ARRIVED) (letGo s a) a) refl)
+    beside-over EXITED (beside-emptied s a)
     (beside-over CUT (beside-cutLinks k a me reason (k .actors) _) (beside-cutMonitors k a me reason (k .monitors) _) refl) refl
 
 -- exit
 pub beside-exit : (reason : ℕ) (k : Caps) (s : State) → Beside EXITED s (exitEntry reason .work k s .state)
 beside-exit reason k s =
     beside-over EXITED (beside-farewell k _ _ reason s)
-    (beside-over EXITED (beside-over EXITED (beside-dropMonitors _ (k .monitors) _) (beside-dropTimers _ (k .timers) _) refl) (beside-of (wrote-leave (wrote-none _) _)) refl) refl
+    (beside-over EXITED (beside-over EXITED (beside-dropMonitors _ _ _) (beside-dropTimers _ _ _) refl) (beside-of (wrote-leave (wrote-none _) _)) refl) refl
 
 -- ---- advance
 abbrev pub ADVANCED : List ℕ
@@ -91,7 +91,7 @@ beside-fireAll : (k : Caps) (m : ℕ) (f : Fired) → Beside ADVANCED (f .state)
 unfolding fireAll fire
 beside-fireAll k zero f = beside-still ADVANCED (f .state)
 beside-fireAll k (suc m) f =
-    split (not (eqb (earliest (f .state) TIMER-OWNER DUE (head (f .state) CLOCK) (k .timers)) 0) && hasRoom k (f .state))
+    split (not (eqb (nextDue k (f .state)) 0) && hasRoom k (f .state))
     (λ q. rw q (beside-over ADVANCED (beside-over ADVANCED (beside-of (wrote-rearm (f .state) _)) (beside-of (wrote-post k (rearm (f .state) _) _ 0 _ _)) refl) (beside-fireAll k m _) refl))
     (λ q. rw q (beside-still ADVANCED (f .state)))
 
@@ -100,7 +100,7 @@ beside-rouse : (k : Caps) (m : ℕ) (s : State) → Beside POSTED s (rouse k m s
 unfolding rouse
 beside-rouse k zero s = beside-still POSTED s
 beside-rouse k (suc m) s =
-    split (eqb (earliest s DEADLINE DEADLINE (head s CLOCK) (k .actors)) 0) (λ q. rw q (beside-still POSTED s))
+    split (eqb (nextOverdue k s) 0) (λ q. rw q (beside-still POSTED s))
     (λ q. rw q (beside-over POSTED (beside-of (wrote-ready (wrote-unwait (wrote-none s) _) _ TIMEOUT)) (beside-rouse k m _) refl))
 
 -- advance

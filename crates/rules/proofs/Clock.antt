@@ -23,9 +23,9 @@ use Rattle.tables.proofs.ViewLaws.{Sized}
 use Rattle.tables.proofs.ActionLaws.{with-other}
 use Rattle.rules.specs.Terms.{MESSAGE, TIMEOUT, WAITS}
 use Rattle.rules.specs.Sound.{pairRule}
-use Rattle.rules.specs.Actions.{dataFor, due, earliest, enlist, fill, hears, mailFor, post, ready, stir, unwait, wake}
+use Rattle.rules.specs.Actions.{dataFor, due, enlist, fill, hears, mailFor, post, ready, stir, unwait, wake}
 use Rattle.rules.specs.Agrees.{Agrees}
-use Rattle.rules.specs.Calls.{disarm, rearm, rouse}
+use Rattle.rules.specs.Calls.{disarm, nextOverdue, rearm, rouse}
 use Rattle.rules.proofs.AgreeLaws.{agrees-time}
 use Rattle.rules.proofs.Frame.{Wrote, wrote-none, wrote-poke, wrote-sized}
 use Rattle.rules.proofs.Frames.{wrote-disarm, wrote-post, wrote-ready, wrote-rearm, wrote-unwait}
@@ -221,10 +221,6 @@ late-good k c s h none =
 -- whose deadline has come
 abbrev pub overdue : State → ℕ → Bool
 overdue s a = due s DEADLINE DEADLINE (head s CLOCK) a
-
--- the first of them, one up
-abbrev pub nextOverdue : Caps → State → ℕ
-nextOverdue k s = earliest s DEADLINE DEADLINE (head s CLOCK) (k .actors)
 
 module _ (k : Caps) (s : State) where
   -- no step where there is none

@@ -150,11 +150,12 @@ exit-nothing reason k s l g r q h =
     let there = runner-alive k s g q in
     let e = running-is k s g l r q in
     let a = runner s - 1 in
-    rw (q, le-ltb LAST-REASON reason h)
-    (departed-nothing (l .people .running) reason _ l
-    (subst (λ (i : ℕ). linked l i i ≡ false) (sym e) (unlinked-self k s l g r a there))
-    (subst (λ (i : ℕ). some (λ m. eqb (m .target) i && eqb (m .watcher) i) (l .ties .monitors) ≡ false) (sym e) (unwatched-self k s l g r a there)),
-    departed-idle (l .people .running) reason _ l)
+    rw (q, le-ltb LAST-REASON reason h) (
+      departed-nothing (l .people .running) reason _ l
+          (subst (λ (i : ℕ). linked l i i ≡ false) (sym e) (unlinked-self k s l g r a there))
+          (subst (λ (i : ℕ). some (λ m. eqb (m .target) i && eqb (m .watcher) i) (l .ties .monitors) ≡ false) (sym e) (unwatched-self k s l g r a there)),
+      departed-idle (l .people .running) reason _ l,
+    )
 
 -- ---- how many notices are sent
 module _ (k : Caps) (s : State) (l : Ledger) (g : Good k s) (r : Agrees k l s) where

@@ -21,7 +21,7 @@ use Rattle.tables.proofs.ViewLaws.{Sized}
 use Rattle.rules.specs.Rule.{Holds}
 use Rattle.rules.specs.Terms.{FREE, RUNS, WAITS, actorId, alive, isActor, joins, runner, runnerId}
 use Rattle.rules.specs.Sound.{actorRule, endsRule, idleRule, onceRule, pairRule}
-use Rattle.rules.specs.Calls.{cutLinks, dropMonitors, dropTimers, exitEntry, farewell, leave, ruled, told}
+use Rattle.rules.specs.Calls.{cutLinks, dropMonitors, dropped, emptied, exitEntry, farewell, leave, ruled, told}
 use Rattle.rules.proofs.Claims.{Keeps}
 use Rattle.rules.proofs.Frame.{wrote-none}
 use Rattle.rules.proofs.Frames.{wrote-leave}
@@ -32,8 +32,7 @@ use Rattle.rules.proofs.ColumnLaws.{alive-below, alive-other, each-set,
 use Rattle.rules.proofs.Ids.{id-free}
 use Rattle.rules.proofs.TieLaws.{below, used-inside}
 use Rattle.rules.proofs.Ties.{dropMonitors-ends, dropMonitors-keeps, dropMonitors-none, dropTimers-ends, dropTimers-keeps, dropTimers-none}
-use Rattle.rules.proofs.Messages.{clear}
-use Rattle.rules.proofs.ExitLaws.{Cut, Unseen, clear-going, cut-none, cutLinks-cuts, cutMonitors-cuts, unseen-none}
+use Rattle.rules.proofs.ExitLaws.{Cut, Unseen, cut-none, cutLinks-cuts, cutMonitors-cuts, emptied-going, unseen-none}
 use Rattle.rules.proofs.LedgerLaws.{runs-at}
 
 -- ---- slot a owns nothing, and nothing is aimed at it
@@ -132,26 +131,22 @@ unwatched k s u a me z w i q =
     (λ p. let y : at u WATCHED i ≡ at s WATCHED i = rw (p, r) at h in eqb-false (at s WATCHED i) (suc a) r (sym y ∙ q))
     (λ p. let y : at u WATCHED i ≡ at s WATCHED i = rw p at h in eqb-false (at s WATCHED i) (suc a) r (sym y ∙ q)))
 
--- the actor's own monitors and timers end
-abbrev pub dropped : Caps → ℕ → State → State
-dropped k a s = dropTimers a (k .timers) (dropMonitors a (k .monitors) s)
-
 module _ (k : Caps) (s : State) (g : Good k s) (a reason : ℕ) (run : runner s ≡ suc a) where
   -- the links with every slot are cut
-  pub links-cut : Cut k a (actorId s a) (k .actors) (clear s a) (cutLinks k a (actorId s a) reason (k .actors) (told 0 0 (clear s a)) .state)
-  links-cut = cutLinks-cuts k (clear s a) (told 0 0 (clear s a)) a (actorId s a) reason (k .actors) (cut-none k (clear s a) a (actorId s a) (clear-going k s a (actorId s a) g run refl))
+  pub links-cut : Cut k a (actorId s a) (k .actors) (emptied s a) (cutLinks k a (actorId s a) reason (k .actors) (told 0 0 (emptied s a)) .state)
+  links-cut = cutLinks-cuts k (emptied s a) (told 0 0 (emptied s a)) a (actorId s a) reason (k .actors) (cut-none k (emptied s a) a (actorId s a) (emptied-going k s a (actorId s a) g run refl))
 
   -- and the monitors on it
-  pub monitors-cut : Unseen k a (actorId s a) (k .monitors) (cutLinks k a (actorId s a) reason (k .actors) (told 0 0 (clear s a)) .state) (farewell k a (actorId s a) reason s .state)
+  pub monitors-cut : Unseen k a (actorId s a) (k .monitors) (cutLinks k a (actorId s a) reason (k .actors) (told 0 0 (emptied s a)) .state) (farewell k a (actorId s a) reason s .state)
   unfolding farewell
   monitors-cut =
-      let t = cutLinks k a (actorId s a) reason (k .actors) (told 0 0 (clear s a)) in
+      let t = cutLinks k a (actorId s a) reason (k .actors) (told 0 0 (emptied s a)) in
       cutMonitors-cuts k (t .state) t a (actorId s a) reason (k .monitors) (omega arith) (unseen-none k (t .state) a (actorId s a) (links-cut .going))
 
   -- the actor owns nothing, and nothing is aimed at it
   pub dropped-bare : Bare k (dropped k a (farewell k a (actorId s a) reason s .state)) a
   dropped-bare =
-      let v = cutLinks k a (actorId s a) reason (k .actors) (told 0 0 (clear s a)) .state in
+      let v = cutLinks k a (actorId s a) reason (k .actors) (told 0 0 (emptied s a)) .state in
       let u = farewell k a (actorId s a) reason s .state in
       let m = dropMonitors a (k .monitors) u in
       let c = links-cut in
@@ -161,7 +156,7 @@ module _ (k : Caps) (s : State) (g : Good k s) (a reason : ℕ) (run : runner s 
       let gm = dropMonitors-keeps k a u gu in
       let y = dropTimers-ends k a m (gm .sized) in
       let gt = dropTimers-keeps k a m gm in
-      let loose = unlinked k (clear s a) v a (actorId s a) c in
+      let loose = unlinked k (emptied s a) v a (actorId s a) c in
       record {
         mail = rw (y .wrote .cols MAIL-OWNER refl, x .wrote .cols MAIL-OWNER refl) (w .going .mail);
         hand = rw (y .wrote .cols HAND refl, x .wrote .cols HAND refl) (w .going .hand);

@@ -32,7 +32,7 @@ use Rattle.tables.specs.State.{State, at, poke, with-col}
 use Rattle.rules.specs.Terms.{actorId, alive, joins, monitorId, runner, runnerId}
 use Rattle.rules.specs.Agrees.{Agrees, actorAt, isWorn, linkAt, monitorAt}
 use Rattle.rules.specs.Actions.{hasRoom, post}
-use Rattle.rules.specs.Calls.{Told, cutLink, cutLinks, cutMonitor, cutMonitors, dropMonitors, dropTimers, exitEntry, farewell, leave, linkOf, ruled, tell, tie, told, unwatch}
+use Rattle.rules.specs.Calls.{Told, cutLink, cutLinks, cutMonitor, cutMonitors, dropMonitors, dropTimers, dropped, emptied, exitEntry, farewell, leave, linkOf, ruled, tell, tie, told, unwatch}
 use Rattle.rules.proofs.Claims.{Agreed, Tested}
 use Rattle.rules.proofs.Good.{Good}
 use Rattle.rules.proofs.ColumnLaws.{other, set-zero}
@@ -44,11 +44,10 @@ use Rattle.rules.proofs.Frame.{wrote-none}
 use Rattle.rules.proofs.Frames.{room-still, wrote-leave, wrote-tie, wrote-unwatch}
 use Rattle.rules.proofs.Ties.{dropMonitors-ends, dropMonitors-keeps, dropTimers-ends, dropTimers-keeps, unwatch-ends}
 use Rattle.rules.proofs.TiesAgree.{bond-joins, bond-used, dropMonitors-agrees, dropTimers-agrees, eye-used, linked-once, linked-same, untie-agrees, unwatch-agrees, up-id}
-use Rattle.rules.proofs.Messages.{clear}
-use Rattle.rules.proofs.MessagesAgree.{clear-agrees, exit-says, post-agrees}
+use Rattle.rules.proofs.MessagesAgree.{emptied-agrees, exit-says, post-agrees}
 use Rattle.rules.proofs.NoticeLaws.{keep-once, map-rows, rows, rows-no, rows-past, rows-same, rows-yes, slot-rows, those-all, those-then, upto, upto-less, upto-more, upto-no, upto-yes}
-use Rattle.rules.proofs.ExitLaws.{Cut, Going, Unseen, clear-going, cut-none, cutLink-no, cutLink-yes, cutLinks-cuts, cutMonitor-no, cutMonitor-yes, cutMonitors-cuts, going-alive, going-fine, link-found, tell-lost, tell-sent, unseen-next, unseen-none, unseen-one, untied, watcher-there}
-use Rattle.rules.proofs.Exit.{dropped, links-cut, monitors-cut}
+use Rattle.rules.proofs.ExitLaws.{Cut, Going, Unseen, cut-none, cutLink-no, cutLink-yes, cutLinks-cuts, cutMonitor-no, cutMonitor-yes, cutMonitors-cuts, emptied-going, going-alive, going-fine, link-found, tell-lost, tell-sent, unseen-next, unseen-none, unseen-one, untied, watcher-there}
+use Rattle.rules.proofs.Exit.{links-cut, monitors-cut}
 
 -- ---- the reckoning in the midst of an exit
 -- it has more messages, and has lost the links and the monitors that pass; worn slots of monitors may be listed in another order
@@ -418,13 +417,13 @@ eyes-same s u a me reason n e f y z = (
 
 module _ (k : Caps) (s : State) (l : Ledger) (g : Good k s) (r : Agrees k l s) (a reason : ℕ) (run : runner s ≡ suc a) where
   -- the notices are the reckoning's, sent as long as there is room, and the links and the monitors on the actor are gone
-  pub farewell-along : Along k (cleared (actorId s a) l) (notices l (actorId s a) reason) (linkGone k (clear s a) a (actorId s a) (k .actors)) (eyeGone (clear s a) a (k .monitors)) (farewell k a (actorId s a) reason s)
+  pub farewell-along : Along k (cleared (actorId s a) l) (notices l (actorId s a) reason) (linkGone k (emptied s a) a (actorId s a) (k .actors)) (eyeGone (emptied s a) a (k .monitors)) (farewell k a (actorId s a) reason s)
   unfolding farewell cleared notices
   farewell-along =
-      let s₀ = clear s a in
+      let s₀ = emptied s a in
       let me = actorId s a in
-      let w = clear-going k s a me g run refl in
-      let r₀ = clear-agrees k s l a g r (runs-alive k s g a run) in
+      let w = emptied-going k s a me g run refl in
+      let r₀ = emptied-agrees k s l a g r (runs-alive k s g a run) in
       let c = links-cut k s g a reason run in
       let t = cutLinks k a me reason (k .actors) (told 0 0 s₀) in
       let v = t .state in
@@ -448,7 +447,7 @@ watcher-left n e seen x v h d =
 
 module _ (k : Caps) (s : State) (l : Ledger) (g : Good k s) (r : Agrees k l s) (a reason : ℕ) (run : runner s ≡ suc a) where
   -- the watchers that are left
-  watchers-left : (e : ℕ) → at (dropped k a (farewell k a (actorId s a) reason s .state)) WATCHER e ≡ cond (seenBy (clear s a) a e || eqb (at (clear s a) WATCHER e) (suc a)) 0 (at (clear s a) WATCHER e)
+  watchers-left : (e : ℕ) → at (dropped k a (farewell k a (actorId s a) reason s .state)) WATCHER e ≡ cond (seenBy (emptied s a) a e || eqb (at (emptied s a) WATCHER e) (suc a)) 0 (at (emptied s a) WATCHER e)
   watchers-left e =
       let u = farewell k a (actorId s a) reason s .state in
       let m = dropMonitors a (k .monitors) u in
@@ -457,13 +456,13 @@ module _ (k : Caps) (s : State) (l : Ledger) (g : Good k s) (r : Agrees k l s) (
       let gu = w .going .good in
       let x = dropMonitors-ends k a u (gu .sized) in
       let y = dropTimers-ends k a m (dropMonitors-keeps k a u gu .sized) in
-      let h : at u WATCHER e ≡ cond (below (clear s a WATCHED) (suc a) (k .monitors) e) 0 (at (clear s a) WATCHER e) = rw (c .wrote .cols WATCHED refl, c .wrote .cols WATCHER refl) at (w .watcher e) in
+      let h : at u WATCHER e ≡ cond (below (emptied s a WATCHED) (suc a) (k .monitors) e) 0 (at (emptied s a) WATCHER e) = rw (c .wrote .cols WATCHED refl, c .wrote .cols WATCHER refl) at (w .watcher e) in
       rw (y .wrote .cols WATCHER refl) (x .watcher e ∙ rw h
-      (watcher-left (k .monitors) e (seenBy (clear s a) a e) (at (clear s a) WATCHER e) (suc a)
-      (λ q. List·getD-eq-default (clear s a WATCHER) 0 {n = e} (omega (arith, ltb-false e (k .monitors) q, clear-going k s a (actorId s a) g run refl .good .sized .words WATCHER (lit< tt)))) (λ z. omega arith)))
+      (watcher-left (k .monitors) e (seenBy (emptied s a) a e) (at (emptied s a) WATCHER e) (suc a)
+      (λ q. List·getD-eq-default (emptied s a WATCHER) 0 {n = e} (omega (arith, ltb-false e (k .monitors) q, emptied-going k s a (actorId s a) g run refl .good .sized .words WATCHER (lit< tt)))) (λ z. omega arith)))
 
   -- and the ages of the monitors' slots
-  ages-left : dropped k a (farewell k a (actorId s a) reason s .state) MONITOR-AGE ≡ clear s a MONITOR-AGE
+  ages-left : dropped k a (farewell k a (actorId s a) reason s .state) MONITOR-AGE ≡ emptied s a MONITOR-AGE
   ages-left =
       let u = farewell k a (actorId s a) reason s .state in
       let w = monitors-cut k s g a reason run in
@@ -475,10 +474,10 @@ module _ (k : Caps) (s : State) (l : Ledger) (g : Good k s) (r : Agrees k l s) (
   unfolding departed gone endTimers endMonitors endLinks cleared
   departed-agrees =
       let me = actorId s a in
-      let s₀ = clear s a in
+      let s₀ = emptied s a in
       let l₀ = cleared me l in
-      let w₀ = clear-going k s a me g run refl in
-      let r₀ = clear-agrees k s l a g r (runs-alive k s g a run) in
+      let w₀ = emptied-going k s a me g run refl in
+      let r₀ = emptied-agrees k s l a g r (runs-alive k s g a run) in
       let t = farewell k a me reason s in
       let u = t .state in
       let w = monitors-cut k s g a reason run in

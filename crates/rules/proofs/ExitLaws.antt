@@ -21,15 +21,15 @@ use Rattle.tables.specs.Action.{push, takeBit}
 use Rattle.rules.specs.Terms.{MESSAGE, actorId, alive, joins, monitorId, runner}
 use Rattle.rules.specs.Sound.{pairRule, senderRule}
 use Rattle.rules.specs.Actions.{enlist, hasRoom, hears, mailFor, post, ready, unwait, wake}
-use Rattle.rules.specs.Calls.{Told, cutLink, cutLinks, cutMonitor, cutMonitors, linkOf, tell, tie, told, unwatch}
+use Rattle.rules.specs.Calls.{Told, cutLink, cutLinks, cutMonitor, cutMonitors, emptied, linkOf, tell, tie, told, unwatch}
 use Rattle.rules.specs.Rule.{Holds}
 use Rattle.rules.proofs.Good.{Good}
 use Rattle.rules.proofs.ColumnLaws.{each-set, other}
 use Rattle.rules.proofs.TieLaws.{below, below-no, below-none, below-yes, cond-twice, joins-ends, joins-none, pair-once, step}
 use Rattle.rules.proofs.Frame.{Wrote, wrote-none, wrote-over, wrote-still}
-use Rattle.rules.proofs.Frames.{LINKED, POSTED, WATCHES, wrote-post, wrote-tie}
+use Rattle.rules.proofs.Frames.{LINKED, POSTED, WATCHES, beside-emptied, wrote-post, wrote-tie}
 use Rattle.rules.proofs.Ties.{unwatch-ends, unwatch-keeps, untie-keeps}
-use Rattle.rules.proofs.Messages.{Fine, beside-clear, clear, clear-empties, clear-hand, clear-keeps, exit-fine, joined, post-heard, post-keeps, post-unheard, sender-fine}
+use Rattle.rules.proofs.Messages.{Fine, emptied-empties, emptied-hand, emptied-keeps, exit-fine, joined, post-heard, post-keeps, post-unheard, sender-fine}
 use Rattle.rules.proofs.LedgerLaws.{runs-alive, runs-at}
 
 -- ---- what a message leaves
@@ -78,15 +78,15 @@ pub going-on : {k : Caps} {a me : ℕ} {s : State} (u : State) → Going k a me 
 going-on u w g r y h m = record { good = g; runs = rw r (w .runs); id = rw y (w .id); mail = m; hand = rw h (w .hand) }
 
 -- once its hand and its mailbox are empty
-pub clear-going : (k : Caps) (s : State) (a me : ℕ) → Good k s → runner s ≡ suc a → actorId s a ≡ me → Going k a me (clear s a)
-clear-going k s a me g r e =
+pub emptied-going : (k : Caps) (s : State) (a me : ℕ) → Good k s → runner s ≡ suc a → actorId s a ≡ me → Going k a me (emptied s a)
+emptied-going k s a me g r e =
     let l : a < k .actors = omega (arith, g .head .0 .1, r) in
     record {
-      good = clear-keeps k s a g l;
-      runs = rw (beside-clear s a .cols RUNNING refl) r;
-      id = rw (beside-clear s a .cols AGE refl) e;
-      mail = clear-empties k s a g l;
-      hand = clear-hand k s a g l;
+      good = emptied-keeps k s a g l;
+      runs = rw (beside-emptied s a .cols RUNNING refl) r;
+      id = rw (beside-emptied s a .cols AGE refl) e;
+      mail = emptied-empties k s a g l;
+      hand = emptied-hand k s a g l;
     }
 
 -- ---- a notice

@@ -38,11 +38,11 @@ use Rattle.rules.specs.Rule.{Holds}
 use Rattle.rules.specs.Terms.{MESSAGE, RUNNABLE, RUNS, WAITS, actorId, alive, fits, isActor, legal, runner, runnerId}
 use Rattle.rules.specs.Sound.{actorRule, arrivalRule, arrivedRule, bitsRule, dataRule, filterRule, headRule, headerRule, idleRule, lengthRule, mailRule, onceRule, pairRule, senderRule, waitRule}
 use Rattle.rules.specs.Actions.{dataFor, delist, enlist, fill, hasRoom, hears, letGo, mailFor, post, ready, stir, unfill, unwait, wake}
-use Rattle.rules.specs.Calls.{await, badWait, dataOf, deadlineAt, dropAll, dropFirst, firstMatch, firstOf, handOver, matchAt, notAtAll, receiveBare}
+use Rattle.rules.specs.Calls.{await, badWait, dataOf, deadlineAt, dropAll, dropFirst, emptied, firstMatch, firstOf, handOver, matchAt, notAtAll, receiveBare}
 use Rattle.rules.specs.Agrees.{arrivals, usedMail}
 use Rattle.rules.proofs.Claims.{Keeps}
-use Rattle.rules.proofs.Frame.{Beside, Wrote, beside-of, beside-over, wrote-free, wrote-none, wrote-poke, wrote-pull, wrote-sized, wrote-take, wrote-with}
-use Rattle.rules.proofs.Frames.{MAILED, beside-dropAll, wrote-await, wrote-enlist, wrote-letGo}
+use Rattle.rules.proofs.Frame.{Wrote, wrote-free, wrote-none, wrote-poke, wrote-pull, wrote-sized, wrote-take, wrote-with}
+use Rattle.rules.proofs.Frames.{beside-dropAll, wrote-await, wrote-enlist, wrote-letGo}
 use Rattle.rules.proofs.Good.{Good}
 use Rattle.rules.proofs.Groups as Part
 use Rattle.rules.proofs.Patch.{_by_also_, done, patch, patch-living}
@@ -718,27 +718,20 @@ exit-fine ages me reason monitor h = record {
 }
 
 -- ---- hand and mailbox of a slot are freed
-abbrev pub clear : State → ℕ → State
-clear s a = dropAll (at s ARRIVED 0) (letGo s a) a
-
 -- sound as before
-pub clear-keeps : (k : Caps) (s : State) (a : ℕ) → Good k s → a < k .actors → Good k (clear s a)
-clear-keeps k s a g l = dropAll-keeps (at s ARRIVED 0) k (letGo s a) a (letGo-keeps k s a g l)
-
--- it writes columns of messages
-pub beside-clear : (s : State) (a : ℕ) → Beside MAILED s (clear s a)
-beside-clear s a = beside-over MAILED (beside-of (wrote-letGo s a)) (beside-dropAll (at s ARRIVED 0) (letGo s a) a) refl
+pub emptied-keeps : (k : Caps) (s : State) (a : ℕ) → Good k s → a < k .actors → Good k (emptied s a)
+emptied-keeps k s a g l = dropAll-keeps (at s ARRIVED 0) k (letGo s a) a (letGo-keeps k s a g l)
 
 -- a hand that lets go changes no mailbox
 pub letGo-arrived : (s : State) (a : ℕ) → letGo s a ARRIVED ≡ s ARRIVED
 letGo-arrived s a = wrote-letGo s a .cols ARRIVED refl
 
 -- no mailbox entry is the slot's
-pub clear-empties : (k : Caps) (s : State) (a : ℕ) → Good k s → a < k .actors → (e : ℕ) → at (clear s a) MAIL-OWNER e ≡ suc a → ⊥
-clear-empties k s a g l e q =
+pub emptied-empties : (k : Caps) (s : State) (a : ℕ) → Good k s → a < k .actors → (e : ℕ) → at (emptied s a) MAIL-OWNER e ≡ suc a → ⊥
+emptied-empties k s a g l e q =
     dropAll-empties k (letGo s a) a (letGo-keeps k s a g l) e
     (subst (λ (n : ℕ). at (dropAll n (letGo s a) a) MAIL-OWNER e ≡ suc a) (ap (λ (c : List ℕ). getD c 0 0) (sym (letGo-arrived s a))) q)
 
 -- and its hand is empty
-pub clear-hand : (k : Caps) (s : State) (a : ℕ) → Good k s → a < k .actors → at (clear s a) HAND a ≡ 0
-clear-hand k s a g l = ap (λ (c : List ℕ). getD c a 0) (beside-dropAll (at s ARRIVED 0) (letGo s a) a .cols HAND refl) ∙ letGo-empty k s a g l
+pub emptied-hand : (k : Caps) (s : State) (a : ℕ) → Good k s → a < k .actors → at (emptied s a) HAND a ≡ 0
+emptied-hand k s a g l = ap (λ (c : List ℕ). getD c a 0) (beside-dropAll (at s ARRIVED 0) (letGo s a) a .cols HAND refl) ∙ letGo-empty k s a g l

@@ -41,7 +41,7 @@ use Rattle.tables.specs.Action.{push, pull, takeBit, freeBit}
 use Rattle.rules.specs.Terms.{MESSAGE, WAITS, actorId, alive, fits, header, isActor, runner, runnerId, wants}
 use Rattle.rules.specs.Agrees.{Agrees, arrivals, boxAt, handAt, isWorn, messageOf, usedData, usedMail}
 use Rattle.rules.specs.Actions.{dataFor, delist, enlist, hasRoom, hears, letGo, mailFor, post, ready, unwait, wake}
-use Rattle.rules.specs.Calls.{await, dataOf, deadlineAt, dropAll, dropFirst, firstMatch, firstOf, handOver, matchAt, notAtAll, receiveBare}
+use Rattle.rules.specs.Calls.{await, dataOf, deadlineAt, dropAll, dropFirst, emptied, firstMatch, firstOf, handOver, matchAt, notAtAll, receiveBare}
 use Rattle.rules.specs.Run.{sayReceived}
 use Rattle.rules.specs.declared.Received.{Received}
 use Rattle.rules.proofs.AgreeLaws.{agrees-messages, agrees-people, living}
@@ -52,7 +52,7 @@ use Rattle.rules.proofs.Good.{Good}
 use Rattle.rules.proofs.ColumnLaws.{alive-below, alive-of, alive-same, each-set, listed-room, other, set-zero, worn-same}
 use Rattle.rules.proofs.LedgerLaws.{idle-same, known-same, runner-alive, running-is, but-map, first-at, first-map, id-eqb, map-same-on, palm-owner, those-keep, those-map, message-room, runs-alive, runs-at}
 use Rattle.rules.proofs.MessageLaws.{Wiped, Written, bytesAt, header-same, held-apart, held-once, held-palm, held-used, occurs-column, text-same}
-use Rattle.rules.proofs.Messages.{Fine, boxes-exact, clear, data-below, data-free, dataOf-below, dataOf-is, delist-wrote, drop-good, drop-none, dropFirst-is, dropFirst-keeps, dropFirst-none, filled, handOver-keeps, hears-waits, ink, ink-is, joined, joined-keeps, letGo-empty, let-good, letGo-arrived, letGo-keeps, mail-below, mail-column, mail-free, mailOf, mailOf-below, notify-fine, post-heard, post-unheard, unfill-is, unfilled, wake-alive, wake-deaf, wipe, wipe-is, wrote-filled, wrote-unfilled}
+use Rattle.rules.proofs.Messages.{Fine, boxes-exact, data-below, data-free, dataOf-below, dataOf-is, delist-wrote, drop-good, drop-none, dropFirst-is, dropFirst-keeps, dropFirst-none, filled, handOver-keeps, hears-waits, ink, ink-is, joined, joined-keeps, letGo-empty, let-good, letGo-arrived, letGo-keeps, mail-below, mail-column, mail-free, mailOf, mailOf-below, notify-fine, post-heard, post-unheard, unfill-is, unfilled, wake-alive, wake-deaf, wipe, wipe-is, wrote-filled, wrote-unfilled}
 use Rattle.rules.proofs.Running.{wake-keeps}
 use Rattle.rules.proofs.RunningAgrees.{wake-agrees}
 use Rattle.rules.proofs.TieLaws.{keep-in}
@@ -619,9 +619,9 @@ unfolding exitBytes le
 exit-says me reason watch to = refl
 
 -- ---- hand and mailbox of an actor are freed
-pub clear-agrees : (k : Caps) (s : State) (l : Ledger) (a : ℕ) → Good k s → Agrees k l s → alive (s STATE) a ≡ true → Agrees k (cleared (actorId s a) l) (clear s a)
+pub emptied-agrees : (k : Caps) (s : State) (l : Ledger) (a : ℕ) → Good k s → Agrees k l s → alive (s STATE) a ≡ true → Agrees k (cleared (actorId s a) l) (emptied s a)
 unfolding cleared
-clear-agrees k s l a g r there =
+emptied-agrees k s l a g r there =
     let n : a < k .actors = omega (arith, alive-below (s STATE) a there, g .sized .words STATE (lit< tt)) in
     let i : actorId (letGo s a) a ≡ actorId s a = ap (λ (c : List ℕ). idOf ACTOR-FACTOR (getD c a 0) a) (wrote-letGo s a .cols AGE refl) in
     let v : alive (letGo s a STATE) a ≡ true = ap (λ (c : List ℕ). alive c a) (wrote-letGo s a .cols STATE refl) ∙ there in

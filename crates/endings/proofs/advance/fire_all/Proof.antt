@@ -10,8 +10,8 @@ use Rattle.pools.proofs.BoolLaws.{and-left}
 use Rattle.tables.specs.Columns.{CLOCK}
 use Rattle.tables.specs.State.{State, head, view, Room}
 use Rattle.rules.specs.Actions.{hasRoom}
-use Rattle.rules.specs.Calls.{Fired, fired, fireAll}
-use Rattle.rules.proofs.Advance.{fire-late, fire-none, nextDue, ticks}
+use Rattle.rules.specs.Calls.{Fired, fired, fireAll, nextDue}
+use Rattle.rules.proofs.Advance.{fire-late, fire-none, ticks}
 use Rattle.endings.specs.Asked.{Raised}
 use Rattle.endings.proofs.EndingLaws.{fire-clock, fire-ends, fire-turn, late-fires}
 use borrow.Author.Needs.{needs}

@@ -9,9 +9,9 @@ use lib.Dec.{eqb}
 use borrow.Author.Tests.{eq-eqb, ne-eqb}
 use Rattle.tables.specs.Columns.{CLOCK}
 use Rattle.tables.specs.State.{State, head, view, Room}
-use Rattle.rules.specs.Calls.{rouse}
+use Rattle.rules.specs.Calls.{nextOverdue, rouse}
 use Rattle.rules.specs.Terms.{TIMEOUT}
-use Rattle.rules.proofs.Clock.{nextOverdue, rouse-step, rouse-zero, wake-clock}
+use Rattle.rules.proofs.Clock.{rouse-step, rouse-zero, wake-clock}
 use Rattle.endings.specs.Asked.{Raised}
 use Rattle.endings.proofs.EndingLaws.{late-short, rouse-ends, rouse-turn}
 use borrow.Author.Needs.{needs}

@@ -1,9 +1,9 @@
 -- Hand and mailbox are cleared first, then links, then the monitors on the actor. Assumes nothing.
 use native.Mathlib.Omega.{arith}
 use Rattle.tables.specs.State.{view}
-use Rattle.rules.specs.Calls.{farewell}
-use Rattle.rules.proofs.Messages.{clear, letGo-arrived}
-use Rattle.rules.proofs.ExitLaws.{clear-going}
+use Rattle.rules.specs.Calls.{emptied, farewell}
+use Rattle.rules.proofs.Messages.{letGo-arrived}
+use Rattle.rules.proofs.ExitLaws.{emptied-going}
 use Rattle.endings.proofs.EndingLaws.{links-going, tells-told}
 use borrow.Author.Needs.{needs}
 use Rattle.endings.proofs.exit.farewell.Statement.{statement}
@@ -21,14 +21,14 @@ cut-links-requires c κs = let a = c .before .before .before .before .before .be
     let h = c .before .before .before .before .before .before .before .before .before .before .before .before .before .before .before .before .before .before .before .before .before .pre in
     let d = c .before .before .before .before .before .before .drop-all in
     let s = view (a .k) (a .t .now) (a .p .now) in
-    (d .ensures .room, rw (d .ensures .is, c .before .before .before .before .before .before .before .before .before .before .before .before .before .let-go .ensures .is, c .before .before .before .before .before .before .before .before .before .before .before .before .before .before .before .before .get .ensures) (clear-going (a .k) s (a .a) (a .me) (h .1) (h .2) (h .3)))
+    (d .ensures .room, rw (d .ensures .is, c .before .before .before .before .before .before .before .before .before .before .before .before .before .let-go .ensures .is, c .before .before .before .before .before .before .before .before .before .before .before .before .before .before .before .before .get .ensures) (emptied-going (a .k) s (a .a) (a .me) (h .1) (h .2) (h .3)))
 
 cut-monitors-requires : tie.Need-cut-monitors-requires
 cut-monitors-requires c κs = let a = c .before .before .before .before .before .before .before .before .before .before .before .before .before .before .before .before .before .before .before .before .before .before .before .before .before .before .before .before .args in
     let h = c .before .before .before .before .before .before .before .before .before .before .before .before .before .before .before .before .before .before .before .before .before .before .before .before .before .before .before .before .pre in
     let d = c .before .before .before .before .before .before .cut-links in
     let s = view (a .k) (a .t .now) (a .p .now) in
-    let g = links-going (a .k) (a .a) (a .me) (clear s (a .a)) (clear-going (a .k) s (a .a) (a .me) (h .1) (h .2) (h .3)) (a .reason) (a .k .actors) in
+    let g = links-going (a .k) (a .a) (a .me) (emptied s (a .a)) (emptied-going (a .k) s (a .a) (a .me) (h .1) (h .2) (h .3)) (a .reason) (a .k .actors) in
     (d .ensures .0 .left .room, rw (d .ensures .0 .left .is, c .before .before .before .before .before .before .before .before .before .before .before .before .before .drop-all .ensures .is, c .before .before .before .before .before .before .before .before .before .before .before .before .before .before .before .before .before .before .before .before .let-go .ensures .is, c .before .before .before .before .before .before .before .before .before .before .before .before .before .before .before .before .before .before .before .before .before .before .before .get .ensures) g, d .ensures .1)
 
 returns : tie.Need-returns
