@@ -1,6 +1,5 @@
 -- Exact lists: each entry in use stands in the list once, and nothing else does. u and v say which entries are in use. Assumes nothing.
 use mathlib.Core.Path.{_≡_, refl, sym, ap, _∙_}
-use mathlib.Core.Logic.{_↔_}
 use mathlib.Core.Bool.{Bool, true, false, cond, not, _&&_}
 use mathlib.Core.List.{List, [], _∷_, _++_}
 use Prim.Native.Nat.{ℕ, _+_, _≤_, _<_}
@@ -10,10 +9,10 @@ use mir.Val.{boolByte}
 use lib.ListN.{length, getD}
 use lib.Dec.{eqb}
 use borrow.Author.Tests.{eq-eqb, ne-eqb}
-use Rattle.pools.specs.Pool.{lowest, count, occurs, Exact}
+use Rattle.pools.specs.Pool.{count, occurs, Exact}
 use Rattle.pools.specs.Lists.{keep, without}
 use Rattle.pools.proofs.BoolLaws.{split, true-false, flag≤, flag-pos}
-use Rattle.pools.proofs.PoolLaws.{count-none, count-same, count-change, count-not, none-iff}
+use Rattle.pools.proofs.PoolLaws.{count-none, count-same, count-change, count-not}
 use Rattle.pools.proofs.ListLaws.{occurs-snoc, occurs-without, occurs-keep, occurs-getD, occurs-place}
 
 -- the flag of two tests together
@@ -111,7 +110,3 @@ module _ (u f : ℕ → Bool) (n : ℕ) (es : List ℕ) (past : (e : ℕ) → n 
   -- the entries in the list and the free ones are all
   pub exact-free : length es + count f n ≡ n
   exact-free = omega (arith, exact-length u n es past x, count-not u n, count-same (λ e. not (u e)) f n rest)
-
-  -- no entry is free exactly where the list has n
-  pub exact-full : (lowest f n ≡ n) ↔ (length es ≡ n)
-  exact-full = (λ e. omega (arith, exact-free, none-iff f n .0 e), λ e. none-iff f n .1 (omega (arith, exact-free)))

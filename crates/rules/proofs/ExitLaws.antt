@@ -30,7 +30,7 @@ use Rattle.rules.proofs.Frame.{Wrote, wrote-none, wrote-over, wrote-sti
 use Rattle.rules.proofs.Frames.{LINKED, POSTED, WATCHES, beside-emptied, wrote-post, wrote-tie}
 use Rattle.rules.proofs.Ties.{unwatch-ends, unwatch-keeps, untie-keeps}
 use Rattle.rules.proofs.Messages.{Fine, emptied-empties, emptied-hand, emptied-keeps, exit-fine, joined, post-heard, post-keeps, post-unheard, sender-fine}
-use Rattle.rules.proofs.LedgerLaws.{runs-alive, runs-at}
+use Rattle.rules.proofs.LedgerLaws.{runs-alive}
 
 -- ---- what a message leaves
 -- the owners of mailbox entries: one entry is the target's
@@ -61,11 +61,7 @@ pub record Going (k : Caps) (a me : ℕ) (s : State) : Type 0 where
   pub mail : (e : ℕ) → at s MAIL-OWNER e ≡ suc a → ⊥
   pub hand : at s HAND a ≡ 0
 
--- it is one of the slots
-pub going-slot : {k : Caps} {a me : ℕ} {s : State} → Going k a me s → a < k .actors
-going-slot {k} {a} {me} {s} w = runs-at k s (w .good) a (w .runs) .0
-
--- and it is alive
+-- it is alive
 pub going-alive : {k : Caps} {a me : ℕ} {s : State} → Going k a me s → alive (s STATE) a ≡ true
 going-alive {k} {a} {me} {s} w = runs-alive k s (w .good) a (w .runs)
 
