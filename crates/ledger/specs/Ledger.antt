@@ -2,18 +2,38 @@
 use Prim.Native.Nat.{ℕ}
 use mathlib.Core.List.{List, []}
 use Rattle.ledger.specs.Call.{Sizes}
+use Rattle.ledger.specs.Limits.{EXIT-CLASS, NOTIFY-CLASS, TIMER-CLASS}
 
 pub record Actor : Type 0 where
   pub id : ℕ
   pub priority : ℕ
 
--- a message: whom it is for, and what it says
+-- what a message says: what an actor wrote, that a timer ticked, or that an actor ended
+pub data Says : Type 0 where
+  -- tag, payload
+  wrote : ℕ → List ℕ → Says
+  -- timer id
+  ticked : ℕ → Says
+  -- actor, reason, and the id of the monitor that saw it, 0 for a link
+  ended : ℕ → ℕ → ℕ → Says
+
+-- a message: whom it is for, whose it is, and what it says
 pub record Message : Type 0 where
   pub to : ℕ
   pub sender : ℕ
-  pub class : ℕ
-  pub tag : ℕ
-  pub payload : List ℕ
+  pub says : Says
+
+-- "class in the top four bits (0 notify, 1 request, 2 reply, 3 timer, 4 exit ..)": by what is said
+abbrev pub classSaid : Says → ℕ
+classSaid (Says.wrote tag payload) = NOTIFY-CLASS
+classSaid (Says.ticked timer) = TIMER-CLASS
+classSaid (Says.ended actor reason monitor) = EXIT-CLASS
+
+-- "tags are 0" where the runtime itself says it
+abbrev pub tagSaid : Says → ℕ
+tagSaid (Says.wrote tag payload) = tag
+tagSaid (Says.ticked timer) = 0
+tagSaid (Says.ended actor reason monitor) = 0
 
 pub record Timer : Type 0 where
   pub id : ℕ

@@ -65,17 +65,3 @@ ANY-CLASS = 15
 
 abbrev pub ANY-TAG : ℕ
 ANY-TAG = 134217727
-
--- ---- records: "two-byte length of what follows, two-byte kind, fields"; "Tick: kind 1, timer id (4)"
-abbrev pub TICK-LENGTH : ℕ
-TICK-LENGTH = 6
-
-abbrev pub TICK-KIND : ℕ
-TICK-KIND = 1
-
--- "Exit: kind 2, actor (4), reason (2), monitor id or 0 for a link (4)"
-abbrev pub EXIT-LENGTH : ℕ
-EXIT-LENGTH = 12
-
-abbrev pub EXIT-KIND : ℕ
-EXIT-KIND = 2

@@ -1,5 +1,5 @@
 -- Lists of things, as a person reckons with them. Assumes nothing.
-use Prim.Native.Nat.{ℕ, zero, suc, _%_, _/_}
+use Prim.Native.Nat.{ℕ, zero, suc}
 use mathlib.Core.Bool.{Bool, false, cond, _||_}
 use mathlib.Core.List.{List, [], _∷_, _++_}
 use lib.Dec.{eqb}
@@ -28,8 +28,3 @@ module _ {A : Type 0} where
   unfoldable pub bySlot : (A → ℕ) → ℕ → List A → List A
   bySlot slot zero xs = []
   bySlot slot (suc n) xs = bySlot slot n xs ++ those (λ x. eqb (slot x) n) xs
-
--- x in k bytes, the low byte first
-abbrev pub bytes : ℕ → ℕ → List ℕ
-bytes zero x = []
-bytes (suc k) x = x % 256 ∷ bytes k (x / 256)

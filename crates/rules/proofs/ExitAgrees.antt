@@ -44,7 +44,7 @@ use Rattle.rules.proofs.Frame.{wrote-none}
 use Rattle.rules.proofs.Frames.{room-still, wrote-leave, wrote-tie, wrote-unwatch}
 use Rattle.rules.proofs.Ties.{dropMonitors-ends, dropMonitors-keeps, dropTimers-ends, dropTimers-keeps, unwatch-ends}
 use Rattle.rules.proofs.TiesAgree.{bond-joins, bond-used, dropMonitors-agrees, dropTimers-agrees, eye-used, linked-once, linked-same, untie-agrees, unwatch-agrees, up-id}
-use Rattle.rules.proofs.MessagesAgree.{emptied-agrees, exit-says, post-agrees}
+use Rattle.rules.proofs.MessagesAgree.{emptied-agrees, post-agrees}
 use Rattle.rules.proofs.NoticeLaws.{keep-once, map-rows, rows, rows-no, rows-past, rows-same, rows-yes, slot-rows, those-all, those-then, upto, upto-less, upto-more, upto-no, upto-yes}
 use Rattle.rules.proofs.ExitLaws.{Cut, Going, Unseen, cut-none, cutLink-no, cutLink-yes, cutLinks-cuts, cutMonitor-no, cutMonitor-yes, cutMonitors-cuts, emptied-going, going-alive, going-fine, link-found, tell-lost, tell-sent, unseen-next, unseen-none, unseen-one, untied, watcher-there}
 use Rattle.rules.proofs.Exit.{links-cut, monitors-cut}
@@ -82,8 +82,7 @@ module _ (k : Caps) (l : Ledger) (ns : List Message) (p : Link → Bool) (q : Mo
       record {
         worn = r .worn;
         agrees = subst (λ (bs : List Message). Agrees k (withMail (left l [] p q (r .worn)) (mail bs (l .mail .hands))) (post k s b me (packed 4 1 0) (exitBytes me reason monitor))) (take-more (l .mail .boxes) ns m (t .sent) n)
-            (subst (λ (x : Message). Agrees k (sent (x ∷ []) (left l (take (t .sent) ns) p q (r .worn))) (post k s b me (packed 4 1 0) (exitBytes me reason monitor))) (exit-says me reason monitor (actorId s b))
-            (post-agrees k s (left l (take (t .sent) ns) p q (r .worn)) b (w .good) (r .agrees) there me (packed 4 1 0) (exitBytes me reason monitor) y (going-fine w reason monitor)));
+            (post-agrees k s (left l (take (t .sent) ns) p q (r .worn)) b (w .good) (r .agrees) there me (packed 4 1 0) (exitBytes me reason monitor) y (going-fine w reason monitor) m refl);
         count = omega (arith, r .count, length-append ns (m ∷ []));
         full = λ h. absurd (h z);
       }

@@ -13,11 +13,11 @@ use lib.IntN.{ℤ}
 use lib.Dec.{eqb, ltb, leb, lit<}
 use borrow.Author.Tests.{eqb-true, eqb-false, eq-eqb, leb-false, ltb-true, ltb-false, ne-eqb, not-true, not-false}
 use Rattle.ledger.specs.Lists.{those, first, butFirst}
-use Rattle.ledger.specs.Ledger.{Ledger, Message, Timer, mail, withMail}
+use Rattle.ledger.specs.Ledger.{Ledger, Message, Says, mail, withMail}
 use Rattle.ledger.specs.Call.Call.{op}
 use Rattle.ledger.specs.Call.Op.{notify, receive}
 use Rattle.ledger.specs.Room.{datasLeft, mailsLeft}
-use Rattle.ledger.specs.Reckon.{cleared, entered, message, notice, runs, sent, tick, wanted}
+use Rattle.ledger.specs.Reckon.{cleared, entered, message, runs, sent, wanted}
 use Rattle.ledger.specs.Reckon.{letGo as release}
 use Rattle.ledger.specs.Reckon.{taken as grasped}
 use Rattle.pools.specs.Pool.{occurs, Exact}
@@ -30,8 +30,6 @@ use Rattle.pools.proofs.SlotLaws.{live-is, of-live}
 use Rattle.pools.proofs.ListLaws.{keep-all-on, keep-same-on, length-keep-le, length-without, occurs-append, occurs-head, occurs-once, occurs-place, occurs-pos, occurs-tail, occurs-without}
 use Rattle.pools.proofs.ExactLaws.{exact-keep, exact-put, exact-same, exact-used}
 use Rattle.records.specs.Header.{classOf, packed, tagOf}
-use Rattle.records.specs.Bytes.{le}
-use Rattle.records.specs.Records.{exitBytes, tickBytes}
 use Rattle.records.proofs.HeaderLaws.{class-packed, tag-packed}
 use Rattle.tables.specs.declared.Caps.{Caps}
 use Rattle.tables.specs.Columns.{AGE, ARRIVAL, ARRIVED, CLOCK, DATA-FREE, HAND, LENGTH, MAIL-DATA, MAIL-FREE, MAIL-OWNER, PAYLOAD, RUNNING, SENDER, STATE}
@@ -39,7 +37,7 @@ use Rattle.tables.specs.Limits.{ACTOR-FACTOR, ANY-TAG, PAYLOAD-MOST}
 use Rattle.tables.specs.State.{State, at, head, poke, with-col}
 use Rattle.tables.specs.Action.{push, pull, takeBit, freeBit}
 use Rattle.rules.specs.Terms.{MESSAGE, WAITS, actorId, alive, fits, header, isActor, runner, runnerId, wants}
-use Rattle.rules.specs.Agrees.{Agrees, arrivals, boxAt, handAt, isWorn, messageOf, usedData, usedMail}
+use Rattle.rules.specs.Agrees.{Agrees, Letter, arrivals, boxAt, handAt, isWorn, letter, messageOf, usedData, usedMail}
 use Rattle.rules.specs.Actions.{dataFor, delist, enlist, hasRoom, hears, letGo, mailFor, post, ready, unwait, wake}
 use Rattle.rules.specs.Calls.{await, dataOf, deadlineAt, dropAll, dropFirst, emptied, firstMatch, firstOf, handOver, matchAt, notAtAll, receiveBare}
 use Rattle.rules.specs.Run.{sayReceived}
@@ -50,7 +48,7 @@ use Rattle.rules.proofs.Frame.{Wrote, wrote-none, wrote-poke, wrote-sti
 use Rattle.rules.proofs.Frames.{MAILED, beside-dropFirst, wrote-await, wrote-enlist, wrote-letGo}
 use Rattle.rules.proofs.Good.{Good}
 use Rattle.rules.proofs.ColumnLaws.{alive-below, alive-of, alive-same, each-set, listed-room, other, set-zero, worn-same}
-use Rattle.rules.proofs.LedgerLaws.{idle-same, known-same, runner-alive, running-is, but-map, first-at, first-map, id-eqb, map-same-on, palm-owner, those-keep, those-map, message-room, runs-alive, runs-at}
+use Rattle.rules.proofs.LedgerLaws.{idle-same, known-same, runner-alive, running-is, but-map, first-at, first-map, id-eqb, map-same-on, palm-owner, those-keep, those-letters, those-map, message-room, runs-alive, runs-at}
 use Rattle.rules.proofs.MessageLaws.{Wiped, Written, bytesAt, header-same, held-apart, held-once, held-palm, held-used, occurs-column, text-same}
 use Rattle.rules.proofs.Messages.{Fine, boxes-exact, data-below, data-free, dataOf-below, dataOf-is, delist-wrote, drop-good, drop-none, dropFirst-is, dropFirst-keeps, dropFirst-none, filled, handOver-keeps, hears-waits, ink, ink-is, joined, joined-keeps, letGo-empty, let-good, letGo-arrived, letGo-keeps, mail-below, mail-column, mail-free, mailOf, mailOf-below, notify-fine, post-heard, post-unheard, unfill-is, unfilled, wake-alive, wake-deaf, wipe, wipe-is, wrote-filled, wrote-unfilled}
 use Rattle.rules.proofs.Running.{wake-keeps}
@@ -91,7 +89,7 @@ module _ (k : Caps) (s : State) (g : Good k s) (palms : List ℕ) (x : Exact pal
 
 -- THE LAW of messages: where nothing but messages changed, the reckoning follows once it says what is in mailboxes and hands
 pub agrees-mail : (k : Caps) (l : Ledger) (s t : State) → Good k t → Agrees k l s → Wrote MAILED s t →
-    (boxes hands : List Message) (palms : List ℕ) → boxes ≡ map (boxAt t) (arrivals t) → Exact palms (λ a. not (unused (t HAND) a)) → hands ≡ map (handAt t) palms →
+    (boxes hands : List Message) (palms : List ℕ) → map letter boxes ≡ map (boxAt t) (arrivals t) → Exact palms (λ a. not (unused (t HAND) a)) → map letter hands ≡ map (handAt t) palms →
     Agrees k (withMail l (mail boxes hands)) t
 agrees-mail k l s t g r w boxes hands palms b x h =
     agrees-messages w r _ (living w refl) refl (record { allBoxes = boxes-exact k t g; boxes = b; palms = palms; allPalms = x; hands = h; allDatas = datas-exact k t g palms x })
@@ -161,9 +159,10 @@ handless id l = withMail l (mail (l .mail .boxes) (those (λ m. not (eqb (m .to)
 
 module _ (k : Caps) (s : State) (l : Ledger) (g : Good k s) (r : Agrees k l s) (a : ℕ) (there : alive (s STATE) a ≡ true) where
   -- the hands of the others
-  hands-left : those (λ m. not (eqb (m .to) (actorId s a))) (l .mail .hands) ≡ map (handAt s) (keep (λ b. not (eqb b a)) (r .mail .palms))
+  hands-left : map letter (those (λ m. not (eqb (m .to) (actorId s a))) (l .mail .hands)) ≡ map (handAt s) (keep (λ b. not (eqb b a)) (r .mail .palms))
   hands-left =
-      ap (those (λ m. not (eqb (m .to) (actorId s a)))) (r .mail .hands)
+      those-letters (λ m. not (eqb (m .to) (actorId s a))) (l .mail .hands)
+      ∙ ap (those (λ m. not (eqb (m .to) (actorId s a)))) (r .mail .hands)
       ∙ those-map (λ m. not (eqb (m .to) (actorId s a))) (handAt s) (r .mail .palms)
       ∙ ap (map (handAt s)) (keep-same-on (λ b. not (eqb (actorId s b) (actorId s a))) (λ b. not (eqb b a)) (r .mail .palms) (λ b o. ap not (id-eqb k s g b a (palm-owner k s g l r b o) there)))
 
@@ -207,6 +206,10 @@ unfolding release
 letGo-agrees k s l g r q = subst (λ (id : ℕ). Agrees k (handless id l) (letGo s (runner s - 1))) (sym (running-is k s g l r q)) (letGo-agrees-at k s l g r (runner s - 1) (runner-alive k s g q))
 
 -- ---- a message joins a mailbox
+-- a letter with this header
+abbrev pub written : ℕ → ℕ → ℕ → List ℕ → Letter
+written to sender head payload = record { to = to; sender = sender; class = classOf head; tag = tagOf head; payload = payload }
+
 module _ (k : Caps) (s : State) (l : Ledger) (g : Good k s) (r : Agrees k l s) (a : ℕ) (there : alive (s STATE) a ≡ true) (d e : ℕ) (below : d < k .datas) (under : e < k .mails) (df : free (s DATA-FREE) d ≡ true) (mf : free (s MAIL-FREE) e ≡ true) (sender head′ : ℕ) (payload : List ℕ)
     (q : List ℕ) (w : Written (s PAYLOAD) q d head′ payload) (good : Good k (enlist (filled s d sender (length payload) q) e a d)) where
   -- the arrivals have one more
@@ -231,7 +234,7 @@ module _ (k : Caps) (s : State) (l : Ledger) (g : Good k s) (r : Agrees k l s) (
       (other (s SENDER) d sender (at s MAIL-DATA f - 1) c) (other (s LENGTH) d (length payload) (at s MAIL-DATA f - 1) c) (w .apart (at s MAIL-DATA f - 1) c) (arrival-long k s g f o))
 
   -- the new one
-  enlist-new : message (actorId s a) sender (classOf head′) (tagOf head′) payload ≡ boxAt (enlist (filled s d sender (length payload) q) e a d) e
+  enlist-new : written (actorId s a) sender head′ payload ≡ boxAt (enlist (filled s d sender (length payload) q) e a d) e
   unfolding enlist push poke with-col takeBit
   enlist-new =
       let o : getD (set (s MAIL-OWNER) e (suc a)) e 0 - 1 ≡ a = omega (arith, getD-set-same (s MAIL-OWNER) e (suc a) 0 (omega (arith, g .sized .words MAIL-OWNER (lit< tt)))) in
@@ -250,41 +253,42 @@ module _ (k : Caps) (s : State) (l : Ledger) (g : Good k s) (r : Agrees k l s) (
       (other (s SENDER) d sender (at s HAND b - 1) c) (other (s LENGTH) d (length payload) (at s HAND b - 1) c) (w .apart (at s HAND b - 1) c) (palm-long k s g b f)
 
   -- the reckoning has it at the tail
-  enlist-agrees : Agrees k (sent (message (actorId s a) sender (classOf head′) (tagOf head′) payload ∷ []) l) (enlist (filled s d sender (length payload) q) e a d)
-  enlist-agrees =
+  enlist-agrees : (m : Message) → letter m ≡ written (actorId s a) sender head′ payload → Agrees k (sent (m ∷ []) l) (enlist (filled s d sender (length payload) q) e a d)
+  enlist-agrees m same =
       let t : State = enlist (filled s d sender (length payload) q) e a d in
       let v = wrote-enlist (wrote-filled (wrote-none s) d sender (length payload) q (w .long)) e a d in
-      agrees-mail k l s t good r (wrote-within MAILED v refl) (l .mail .boxes ++ (message (actorId s a) sender (classOf head′) (tagOf head′) payload ∷ [])) (l .mail .hands) (r .mail .palms)
-      (ap₂ (λ (x y : List Message). x ++ y) (r .mail .boxes ∙ map-same-on (boxAt s) (boxAt t) (arrivals s) enlist-old) (ap (λ (m : Message). m ∷ []) enlist-new)
+      agrees-mail k l s t good r (wrote-within MAILED v refl) (l .mail .boxes ++ (m ∷ [])) (l .mail .hands) (r .mail .palms)
+      (map-append letter (l .mail .boxes) (m ∷ []) ∙ ap₂ (λ (x y : List Letter). x ++ y) (r .mail .boxes ∙ map-same-on (boxAt s) (boxAt t) (arrivals s) enlist-old) (ap (λ (x : Letter). x ∷ []) (same ∙ enlist-new))
       ∙ sym (map-append (boxAt t) (arrivals s) (e ∷ [])) ∙ ap (map (boxAt t)) (sym enlist-arrivals))
       (rw (v .cols HAND refl) (r .mail .allPalms)) (r .mail .hands ∙ map-same-on (handAt s) (handAt t) (r .mail .palms) enlist-hands)
 
 -- a message that its target does not wait for
 joined-agrees : (k : Caps) (s : State) (l : Ledger) (a : ℕ) → Good k s → Agrees k l s → alive (s STATE) a ≡ true → (sender head : ℕ) (payload : List ℕ) → hasRoom k s ≡ true → Fine (s AGE) sender head payload →
-    hears s a sender head ≡ false → Agrees k (sent (message (actorId s a) sender (classOf head) (tagOf head) payload ∷ []) l) (joined k s a sender head payload)
-joined-agrees k s l a g r there sender head payload roomy fine q =
+    hears s a sender head ≡ false → (m : Message) → letter m ≡ written (actorId s a) sender head payload → Agrees k (sent (m ∷ []) l) (joined k s a sender head payload)
+joined-agrees k s l a g r there sender head payload roomy fine q m same =
     let d = dataFor k s in
     let e = mailFor k s in
     let w = ink-is k s g a there d e (data-below k s roomy) (mail-below k s roomy) (data-free k s roomy) (mail-free k s roomy) sender head payload fine in
-    enlist-agrees k s l g r a there d e (data-below k s roomy) (mail-below k s roomy) (data-free k s roomy) (mail-free k s roomy) sender head payload (ink s d head payload) w (joined-keeps k s a g there sender head payload roomy fine q)
+    enlist-agrees k s l g r a there d e (data-below k s roomy) (mail-below k s roomy) (data-free k s roomy) (mail-free k s roomy) sender head payload (ink s d head payload) w (joined-keeps k s a g there sender head payload roomy fine q) m same
 
 -- THE THEOREM of a message to a live actor: it joins the tail of the reckoning's mailboxes
 pub post-agrees : (k : Caps) (s : State) (l : Ledger) (a : ℕ) → Good k s → Agrees k l s → alive (s STATE) a ≡ true → (sender head : ℕ) (payload : List ℕ) → hasRoom k s ≡ true → Fine (s AGE) sender head payload →
-    Agrees k (sent (message (actorId s a) sender (classOf head) (tagOf head) payload ∷ []) l) (post k s a sender head payload)
+    (x : Message) → letter x ≡ written (actorId s a) sender head payload → Agrees k (sent (x ∷ []) l) (post k s a sender head payload)
 unfolding ready unwait push poke with-col
-post-agrees k s l a g r there sender head payload roomy fine =
+post-agrees k s l a g r there sender head payload roomy fine x same =
     let n = alive-below (s STATE) a there in
     let m : a < k .actors = omega (arith, g .sized .words STATE (lit< tt)) in
     split (hears s a sender head)
     (λ q. let u = hears-waits s a sender head q in
     rw (post-heard k s a sender head payload q)
-    (joined-agrees k (wake s a MESSAGE) l a (wake-keeps k s a MESSAGE g m u (omega arith)) (wake-agrees k s l a MESSAGE r u) (wake-alive s a n) sender head payload roomy fine (wake-deaf s a sender head n)))
-    (λ q. rw (post-unheard k s a sender head payload q) (joined-agrees k s l a g r there sender head payload roomy fine q))
+    (joined-agrees k (wake s a MESSAGE) l a (wake-keeps k s a MESSAGE g m u (omega arith)) (wake-agrees k s l a MESSAGE r u) (wake-alive s a n) sender head payload roomy fine (wake-deaf s a sender head n) x same))
+    (λ q. rw (post-unheard k s a sender head payload q) (joined-agrees k s l a g r there sender head payload roomy fine q x same))
 
 -- ---- notify
--- messages that say the same
-same-message : {to to′ sender sender′ class class′ tag tag′ : ℕ} (payload : List ℕ) → to ≡ to′ → sender ≡ sender′ → class ≡ class′ → tag ≡ tag′ → message to sender class tag payload ≡ message to′ sender′ class′ tag′ payload
-same-message payload a b c d = rw (a, b, c, d)
+-- letters that are the same
+same-letter : {to to′ sender sender′ class class′ tag tag′ : ℕ} (payload : List ℕ) → to ≡ to′ → sender ≡ sender′ → class ≡ class′ → tag ≡ tag′ →
+    _≡_ {A = Letter} (record { to = to; sender = sender; class = class; tag = tag; payload = payload }) (record { to = to′; sender = sender′; class = class′; tag = tag′; payload = payload })
+same-letter payload a b c d = rw (a, b, c, d)
 
 -- THE THEOREM of notify, and the reckoning
 pub notify-agrees : (target tag : ℕ) (payload : List ℕ) → Agreed (notify target tag payload)
@@ -294,11 +298,11 @@ notify-agrees target tag payload k s l g r p =
     let n = neither (leb ANY-TAG tag) (ltb PAYLOAD-MOST (length payload)) (p .1 .0) in
     let e = not-false (isActor s target) (p .1 .1 .0) in
     let t = leb-false ANY-TAG tag (n .0) in
-    let m : message (actorId s a) (runnerId s) (classOf (packed 0 0 tag)) (tagOf (packed 0 0 tag)) payload ≡ message target (l .people .running) 0 tag payload =
-    same-message payload (sym (live-is ACTOR-FACTOR (s STATE) (s AGE) target (lit< tt) e)) (sym (running-is k s g l r (p .0))) (class-packed 0 0 tag (omega arith) (omega arith)) (tag-packed 0 0 tag (omega arith) (omega arith)) in
-    subst (λ (m : Message). Agrees k (sent (m ∷ []) l) (post k s a (runnerId s) (packed 0 0 tag) payload)) m
-    (post-agrees k s l a g r (alive-of (s STATE) a (of-live ACTOR-FACTOR (s STATE) (s AGE) target e .0)) (runnerId s) (packed 0 0 tag) payload (not-false (hasRoom k s) (p .1 .1 .1 .0))
-    (notify-fine k s (runner s - 1) tag payload g (runner-alive k s g (p .0)) t (ltb-false PAYLOAD-MOST (length payload) (n .1))))
+    let m = message target (l .people .running) (Says.wrote tag payload) in
+    let same : letter m ≡ written (actorId s a) (runnerId s) (packed 0 0 tag) payload =
+    same-letter payload (live-is ACTOR-FACTOR (s STATE) (s AGE) target (lit< tt) e) (running-is k s g l r (p .0)) (sym (class-packed 0 0 tag (omega arith) (omega arith))) (sym (tag-packed 0 0 tag (omega arith) (omega arith))) in
+    post-agrees k s l a g r (alive-of (s STATE) a (of-live ACTOR-FACTOR (s STATE) (s AGE) target e .0)) (runnerId s) (packed 0 0 tag) payload (not-false (hasRoom k s) (p .1 .1 .1 .0))
+    (notify-fine k s (runner s - 1) tag payload g (runner-alive k s g (p .0)) t (ltb-false PAYLOAD-MOST (length payload) (n .1))) m same
 
 -- its tests are the reckoning's
 pub notify-same : (target tag : ℕ) (payload : List ℕ) → Tested (notify target tag payload)
@@ -336,18 +340,18 @@ module _ (k : Caps) (s : State) (l : Ledger) (g : Good k s) (r : Agrees k l s) (
       (omega arith, ne-eqb f (mailOf s j) (λ z. omega (arith, rw (eq-eqb (mailOf s j) f (sym z)) at w, boxes-exact k s g f, flag≤ (usedMail k s f))))
 
   -- the first message that passes is in the j-th arrival
-  module _ (p : Message → Bool) (yes : p (boxAt s (mailOf s j)) ≡ true) (no : (i : ℕ) → i < j → p (boxAt s (mailOf s i)) ≡ false) where
+  module _ (p : Letter → Bool) (yes : p (boxAt s (mailOf s j)) ≡ true) (no : (i : ℕ) → i < j → p (boxAt s (mailOf s i)) ≡ false) where
     -- in the tables
     found : (first (λ e. p (boxAt s e)) (arrivals s) ≡ getD (arrivals s) j 0 ∷ []) × (butFirst (λ e. p (boxAt s e)) (arrivals s) ≡ without j (arrivals s))
     found = first-at (λ e. p (boxAt s e)) (arrivals s) j (omega (arith, arrivals-long)) (rw arrival-at yes) (λ i h. rw (getD-take (at s ARRIVED 0) (s ARRIVAL) i 0 (omega arith)) (no i h))
 
     -- the reckoning's first
-    first-box : first p (l .mail .boxes) ≡ boxAt s (mailOf s j) ∷ []
-    first-box = ap (first p) (r .mail .boxes) ∙ first-map p (boxAt s) (arrivals s) ∙ ap (map (boxAt s)) (found .0) ∙ ap (λ (e : ℕ). boxAt s e ∷ []) arrival-at
+    first-box : map letter (first (λ m. p (letter m)) (l .mail .boxes)) ≡ boxAt s (mailOf s j) ∷ []
+    first-box = sym (first-map p letter (l .mail .boxes)) ∙ ap (first p) (r .mail .boxes) ∙ first-map p (boxAt s) (arrivals s) ∙ ap (map (boxAt s)) (found .0) ∙ ap (λ (e : ℕ). boxAt s e ∷ []) arrival-at
 
     -- and the others
-    but-boxes : butFirst p (l .mail .boxes) ≡ map (boxAt s) (without j (arrivals s))
-    but-boxes = ap (butFirst p) (r .mail .boxes) ∙ but-map p (boxAt s) (arrivals s) ∙ ap (map (boxAt s)) (found .1)
+    but-boxes : map letter (butFirst (λ m. p (letter m)) (l .mail .boxes)) ≡ map (boxAt s) (without j (arrivals s))
+    but-boxes = sym (but-map p letter (l .mail .boxes)) ∙ ap (butFirst p) (r .mail .boxes) ∙ but-map p (boxAt s) (arrivals s) ∙ ap (map (boxAt s)) (found .1)
 
     -- ---- it goes to an empty hand of its owner
     module _ (a : ℕ) (there : alive (s STATE) a ≡ true) (empty : at s HAND a ≡ 0) (mine : at s MAIL-OWNER (mailOf s j) ≡ suc a) where
@@ -383,14 +387,15 @@ module _ (k : Caps) (s : State) (l : Ledger) (g : Good k s) (r : Agrees k l s) (
           (λ b n. rw (other (s HAND) a (suc (dataOf s j)) b (ne-eqb b a n)))
 
       -- THE THEOREM of a message that goes to a hand
-      pub handOver-agrees : Agrees k (grasped p l) (handOver s a j)
+      pub handOver-agrees : Agrees k (grasped (λ m. p (letter m)) l) (handOver s a j)
       unfolding grasped
       handOver-agrees =
           let t : State = handOver s a j in
-          agrees-mail k l s t (handOver-keeps k s a j g there empty jl) r (unfold handOver in (wrote-within MAILED (wrote-poke (delist-wrote k s g j jl) HAND a (suc (dataOf s j))) refl)) (butFirst p (l .mail .boxes)) (l .mail .hands ++ first p (l .mail .boxes)) (r .mail .palms ++ (a ∷ []))
+          agrees-mail k l s t (handOver-keeps k s a j g there empty jl) r (unfold handOver in (wrote-within MAILED (wrote-poke (delist-wrote k s g j jl) HAND a (suc (dataOf s j))) refl)) (butFirst (λ m. p (letter m)) (l .mail .boxes)) (l .mail .hands ++ first (λ m. p (letter m)) (l .mail .boxes)) (r .mail .palms ++ (a ∷ []))
           (but-boxes ∙ map-same-on (boxAt s) (boxAt t) (without j (arrivals s)) over-box ∙ ap (map (boxAt t)) (sym over-list))
           over-palms
-          (ap₂ (λ (x y : List Message). x ++ y) (r .mail .hands ∙ map-same-on (handAt s) (handAt t) (r .mail .palms) over-hand) (first-box ∙ ap (λ (m : Message). m ∷ []) over-new)
+          (map-append letter (l .mail .hands) (first (λ m. p (letter m)) (l .mail .boxes))
+          ∙ ap₂ (λ (x y : List Letter). x ++ y) (r .mail .hands ∙ map-same-on (handAt s) (handAt t) (r .mail .palms) over-hand) (first-box ∙ ap (λ (x : Letter). x ∷ []) over-new)
           ∙ sym (map-append (handAt t) (r .mail .palms) (a ∷ [])))
 
     -- ---- it is dropped, with its data entry
@@ -422,11 +427,11 @@ module _ (k : Caps) (s : State) (l : Ledger) (g : Good k s) (r : Agrees k l s) (
           (other (s SENDER) (dataOf s j) 0 (at s HAND b - 1) c) (other (s LENGTH) (dataOf s j) 0 (at s HAND b - 1) c) (w .apart (at s HAND b - 1) c) (palm-long k s g b f)
 
       -- the reckoning without it
-      drop-agrees : Agrees k (withMail l (mail (butFirst p (l .mail .boxes)) (l .mail .hands))) (unfilled (delist s j) (dataOf s j) q)
+      drop-agrees : Agrees k (withMail l (mail (butFirst (λ m. p (letter m)) (l .mail .boxes)) (l .mail .hands))) (unfilled (delist s j) (dataOf s j) q)
       drop-agrees =
           let t : State = unfilled (delist s j) (dataOf s j) q in
           let v = wrote-unfilled (delist-wrote k s g j jl) (dataOf s j) q (w .long ∙ sym (delist-wrote k s g j jl .long PAYLOAD)) in
-          agrees-mail k l s t (drop-good k s g j jl q w) r (wrote-within MAILED v refl) (butFirst p (l .mail .boxes)) (l .mail .hands) (r .mail .palms)
+          agrees-mail k l s t (drop-good k s g j jl q w) r (wrote-within MAILED v refl) (butFirst (λ m. p (letter m)) (l .mail .boxes)) (l .mail .hands) (r .mail .palms)
           (but-boxes ∙ map-same-on (boxAt s) (boxAt t) (without j (arrivals s)) drop-box ∙ ap (map (boxAt t)) (sym drop-list))
           (rw (v .cols HAND refl) (r .mail .allPalms)) (r .mail .hands ∙ map-same-on (handAt s) (handAt t) (r .mail .palms) drop-hand)
 
@@ -462,12 +467,13 @@ pub dropFirst-agrees : (k : Caps) (s : State) (l : Ledger) (a : ℕ) → Good k 
 dropFirst-agrees k s l a g r there =
     split (ltb (firstOf s a) (at s ARRIVED 0))
     (λ q. let h = ltb-true (firstOf s a) (at s ARRIVED 0) q in
-    rw (dropFirst-is s a q) (drop-agrees k s l g r (firstOf s a) h (toId (actorId s a))
+    rw (dropFirst-is s a q) (drop-agrees k s l g r (firstOf s a) h (λ x. eqb (x .to) (actorId s a))
     (box-own k s a g there (mailOf s (firstOf s a)) (arrival-in-list k s g (firstOf s a) h) ∙ lowest-at (λ i. eqb (at s MAIL-OWNER (at s ARRIVAL i)) (suc a)) (at s ARRIVED 0) h)
     (λ i m. box-own k s a g there (mailOf s i) (arrival-in-list k s g i (omega arith)) ∙ lowest-first (λ i. eqb (at s MAIL-OWNER (at s ARRIVAL i)) (suc a)) (at s ARRIVED 0) i m)
     (wipe (s PAYLOAD) (dataOf s (firstOf s a))) (wipe-is k s (dataOf s (firstOf s a)) (g .sized) (dataOf-below k s g (firstOf s a) h))))
     (λ q. rw (dropFirst-none s a q) (agrees-mail k l s s g r (wrote-still MAILED s) (butFirst (toId (actorId s a)) (l .mail .boxes)) (l .mail .hands) (r .mail .palms)
-    (ap (butFirst (toId (actorId s a))) (r .mail .boxes) ∙ but-map (toId (actorId s a)) (boxAt s) (arrivals s) ∙ ap (map (boxAt s)) (but-none (λ e. toId (actorId s a) (boxAt s e)) (arrivals s) (λ e o.
+    (sym (but-map (λ x. eqb (x .to) (actorId s a)) letter (l .mail .boxes)) ∙ ap (butFirst (λ x. eqb (x .to) (actorId s a))) (r .mail .boxes)
+    ∙ but-map (λ x. eqb (x .to) (actorId s a)) (boxAt s) (arrivals s) ∙ ap (map (boxAt s)) (but-none (λ e. eqb (actorId s (at s MAIL-OWNER e - 1)) (actorId s a)) (arrivals s) (λ e o.
     box-own k s a g there e o ∙ ne-eqb (at s MAIL-OWNER e) (suc a) (λ z.
     let m = arrival-below k s g e o in
     omega (arith, drop-none k s a g q, occurs-pos (suc a) (s MAIL-OWNER) e (omega (arith, g .sized .words MAIL-OWNER (lit< tt))) z)))))
@@ -524,7 +530,7 @@ pub dropAll-agrees : (k : Caps) (s : State) (l : Ledger) (a : ℕ) → Good k s 
 dropAll-agrees k s l a g r there =
     let t = length-take-le (at s ARRIVED 0) (s ARRIVAL) (omega (arith, g .head .1 .1, g .sized .words ARRIVAL (lit< tt))) in
     let n : length (those (toId (actorId s a)) (l .mail .boxes)) ≤ at s ARRIVED 0 =
-    omega (arith, t, ap length (those-keep (toId (actorId s a)) (l .mail .boxes)), length-keep-le (toId (actorId s a)) (l .mail .boxes), ap length (r .mail .boxes), length-map (arrivals s) (boxAt s)) in
+    omega (arith, t, ap length (those-keep (toId (actorId s a)) (l .mail .boxes)), length-keep-le (toId (actorId s a)) (l .mail .boxes), length-map (l .mail .boxes) letter, ap length (r .mail .boxes), length-map (arrivals s) (boxAt s)) in
     subst (λ (b : List Message). Agrees k (withMail l (mail b (l .mail .hands))) (dropAll (at s ARRIVED 0) s a)) (butFirsts-all (toId (actorId s a)) (at s ARRIVED 0) (l .mail .boxes) n)
     (dropAll-steps (at s ARRIVED 0) k s l a g r there)
 
@@ -544,10 +550,18 @@ await-agrees k s l a sender class tag deadline g r run =
       wornSlots = exact-same (isWorn (s STATE) (s AGE)) (isWorn (set (s STATE) a WAITS) (s AGE)) (l .people .worn) (r .people .wornSlots) (worn-same (s STATE) (s AGE) a WAITS x y);
     })
 
--- the reckoning's filter passes a message where the tables' does
-wanted-same : (k : Caps) (s : State) (a sender class tag : ℕ) → Good k s → alive (s STATE) a ≡ true → (i : ℕ) → i < at s ARRIVED 0 →
-    wanted (actorId s a) sender class tag (boxAt s (mailOf s i)) ≡ matchAt s a sender class tag i
+-- the reckoning's filter, on what is written
+abbrev pub wantedLetter : ℕ → ℕ → ℕ → ℕ → Letter → Bool
+wantedLetter who sender class tag x = eqb (x .to) who && fits sender class tag (x .sender) (x .class) (x .tag)
+
+-- it is the same
+wanted-letter : (who sender class tag : ℕ) → wanted who sender class tag ≡ λ m. wantedLetter who sender class tag (letter m)
 unfolding wanted fits wants
+wanted-letter who sender class tag = refl
+
+-- it passes a message where the tables' does
+wanted-same : (k : Caps) (s : State) (a sender class tag : ℕ) → Good k s → alive (s STATE) a ≡ true → (i : ℕ) → i < at s ARRIVED 0 →
+    wantedLetter (actorId s a) sender class tag (boxAt s (mailOf s i)) ≡ matchAt s a sender class tag i
 wanted-same k s a sender class tag g there i h = rw (box-own k s a g there (mailOf s i) (arrival-in-list k s g i h))
 
 -- once the hand is empty
@@ -564,8 +578,8 @@ receiveBare-agrees sender class tag wait k s l a g r run empty =
     split (ltb j (head s ARRIVED))
     (λ q. let h = ltb-true j (head s ARRIVED) q in
     let m = lowest-at (matchAt s a sender class tag) (head s ARRIVED) h in
-    rw q (subst (λ (id : ℕ). Agrees k (grasped (wanted id sender class tag) l) (handOver s a j)) (sym who)
-    (handOver-agrees k s l g r j h (wanted (actorId s a) sender class tag) (wanted-same k s a sender class tag g there j h ∙ m)
+    rw q (subst (λ (p : Message → Bool). Agrees k (grasped p l) (handOver s a j)) (sym (ap (λ (id : ℕ). wanted id sender class tag) who ∙ wanted-letter (actorId s a) sender class tag))
+    (handOver-agrees k s l g r j h (wantedLetter (actorId s a) sender class tag) (wanted-same k s a sender class tag g there j h ∙ m)
     (λ i b. wanted-same k s a sender class tag g there i (omega arith) ∙ lowest-first (matchAt s a sender class tag) (head s ARRIVED) i b) a there empty
     (eqb-true (at s MAIL-OWNER (mailOf s j)) (suc a) (and-left (eqb (at s MAIL-OWNER (mailOf s j)) (suc a)) (fits sender class tag (at s SENDER (dataOf s j)) (classOf (header s (dataOf s j))) (tagOf (header s (dataOf s j)))) m)))))
     (λ q. split (notAtAll wait) (λ b. rw (q, b) r) (λ b. rw (q, b) (await-agrees k s l a sender class tag (deadlineAt (head s CLOCK) wait) g r run)))
@@ -606,17 +620,6 @@ receive-same sender class tag wait k s l g r = (idle-same k s g l r, refl, λ h.
 -- THE THEOREM of receive, and the reckoning
 pub receive-agrees : (sender class tag : ℕ) (wait : ℤ) → Agreed (receive sender class tag wait)
 receive-agrees sender class tag wait k s l g r p = received-agrees sender class tag wait k s l g r (p .0)
-
--- ---- what the runtime itself sends, in the reckoning's words
--- a tick
-pub tick-says : (t : Timer) → message (t .owner) 0 (classOf (packed 3 1 0)) (tagOf (packed 3 1 0)) (tickBytes (t .id)) ≡ tick t
-unfolding tickBytes le
-tick-says t = refl
-
--- the notice of an exit
-pub exit-says : (me reason watch to : ℕ) → message to me (classOf (packed 4 1 0)) (tagOf (packed 4 1 0)) (exitBytes me reason watch) ≡ notice me reason watch to
-unfolding exitBytes le
-exit-says me reason watch to = refl
 
 -- ---- hand and mailbox of an actor are freed
 pub emptied-agrees : (k : Caps) (s : State) (l : Ledger) (a : ℕ) → Good k s → Agrees k l s → alive (s STATE) a ≡ true → Agrees k (cleared (actorId s a) l) (emptied s a)

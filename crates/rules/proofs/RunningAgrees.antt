@@ -12,7 +12,7 @@ use Rattle.ledger.specs.Call.Op.{next, shown, spawn, yield}
 use Rattle.ledger.specs.Ledger.{Actor, Ledger, Message, people, withPeople}
 use Rattle.ledger.specs.Lists.{first}
 use Rattle.ledger.specs.Reckon.{entered, runs}
-use Rattle.ledger.specs.Room.{actorsLeft, datasLeft, linksLeft, mailsLeft, monitorsLeft, timersLeft}
+use Rattle.ledger.specs.Room.{actorsLeft, datasLeft, inHand, linksLeft, mailsLeft, monitorsLeft, timersLeft}
 use Rattle.pools.specs.Pool.{occurs}
 use Rattle.pools.specs.Slot.{idOf, unused, usable}
 use Rattle.pools.proofs.BoolLaws.{split, true-false}
@@ -23,7 +23,7 @@ use Rattle.tables.specs.Limits.{ACTOR-FACTOR, LEVELS, OLDEST}
 use Rattle.tables.specs.State.{State, at, head, with-col, poke}
 use Rattle.tables.specs.Action.{push, pull}
 use Rattle.rules.specs.Terms.{FREE, RUNNABLE, RUNS, WAITS, actorId, alive, runner}
-use Rattle.rules.specs.Agrees.{Agrees, actorAt, arrivals, boxAt, handAt, isWorn, linkAt, monitorAt, timerAt}
+use Rattle.rules.specs.Agrees.{Agrees, Letter, actorAt, arrivals, boxAt, handAt, isWorn, letter, linkAt, monitorAt, shows, timerAt}
 use Rattle.rules.specs.Actions.{halt, ready, unwait, wake}
 use Rattle.rules.specs.Calls.{firstHead, reportEntry, ruled, run, showEntry, slotFor}
 use Rattle.rules.proofs.AgreeLaws.{agrees-people, agrees-still, living}
@@ -183,21 +183,26 @@ report-counts k s l g r = rw (actors-left k s g l r, mails-left k s g l r, datas
 pub shown-same : Tested shown
 shown-same k s l g r = (idle-same k s g l r, refl, λ h. (hand-same k s g l r h, refl, λ z. record {}))
 
--- the bytes of a message, and none where there is no message
-abbrev pub bytesOf : List Message → List ℕ
-bytesOf [] = []
-bytesOf (m ∷ ms) = m .payload
+-- the bytes of a written message, and none where there is no message
+abbrev textOf : List Letter → List ℕ
+textOf [] = []
+textOf (x ∷ xs) = x .payload
 
--- the message in the caller's hand, as the reckoning has it
-abbrev pub inHand : Ledger → List Message
-inHand l = first (λ m. eqb (m .to) (l .people .running)) (l .mail .hands)
+-- they are those of what is said
+text-shows : (ms : List Message) → shows ms ≡ textOf (map letter ms)
+text-shows [] = refl
+text-shows (m ∷ ms) = refl
+
+-- what is in an actor's hand, as it is written
+hand-letters : (id : ℕ) (ms : List Message) → map letter (first (λ m. eqb (m .to) id) ms) ≡ first (λ x. eqb (x .to) id) (map letter ms)
+hand-letters id ms = sym (first-map (λ x. eqb (x .to) id) letter ms)
 
 module _ (k : Caps) (s : State) (l : Ledger) (g : Good k s) (r : Agrees k l s) where
   -- nobody runs: there is none
-  hand-idle : eqb (runner s) 0 ≡ true → inHand l ≡ []
+  hand-idle : eqb (runner s) 0 ≡ true → map letter (inHand l) ≡ []
   hand-idle q =
       let z : l .people .running ≡ 0 = r .people .running ∙ rw q in
-      rw (z, r .mail .hands, first-map (λ m. eqb (m .to) 0) (handAt s) (r .mail .palms))
+      rw (z, hand-letters 0 (l .mail .hands), r .mail .hands, first-map (λ x. eqb (x .to) 0) (handAt s) (r .mail .palms))
       (ap (map (handAt s)) (first-none (λ a. eqb (actorId s a) 0) (r .mail .palms) (λ a o. id-not-zero k s g a (palm-owner k s g l r a o))))
 
   module _ (q : eqb (runner s) 0 ≡ false) where
@@ -206,21 +211,21 @@ module _ (k : Caps) (s : State) (l : Ledger) (g : Good k s) (r : Agrees k l s) w
     hand-own a o = id-eqb k s g a (runner s - 1) (palm-owner k s g l r a o) (runner-alive k s g q)
 
     -- an empty hand
-    hand-none : eqb (at s HAND (runner s - 1)) 0 ≡ true → inHand l ≡ []
+    hand-none : eqb (at s HAND (runner s - 1)) 0 ≡ true → map letter (inHand l) ≡ []
     hand-none p =
-        rw (running-is k s g l r q, r .mail .hands, first-map (λ m. eqb (m .to) (actorId s (runner s - 1))) (handAt s) (r .mail .palms))
+        rw (running-is k s g l r q, hand-letters (actorId s (runner s - 1)) (l .mail .hands), r .mail .hands, first-map (λ x. eqb (x .to) (actorId s (runner s - 1))) (handAt s) (r .mail .palms))
         (ap (map (handAt s)) (first-none (λ a. eqb (actorId s a) (actorId s (runner s - 1))) (r .mail .palms) (λ a o. hand-own a o ∙ ne-eqb a (runner s - 1) (λ e.
         true-false (unused (s HAND) (runner s - 1)) p (ap (unused (s HAND)) (sym e) ∙ not-true (unused (s HAND) a) (exact-used (λ a. not (unused (s HAND) a)) (r .mail .palms) a (r .mail .allPalms) o))))))
 
     -- a message in hand
-    hand-some : eqb (at s HAND (runner s - 1)) 0 ≡ false → inHand l ≡ handAt s (runner s - 1) ∷ []
+    hand-some : eqb (at s HAND (runner s - 1)) 0 ≡ false → map letter (inHand l) ≡ handAt s (runner s - 1) ∷ []
     hand-some p =
-        rw (running-is k s g l r q, r .mail .hands, first-map (λ m. eqb (m .to) (actorId s (runner s - 1))) (handAt s) (r .mail .palms))
+        rw (running-is k s g l r q, hand-letters (actorId s (runner s - 1)) (l .mail .hands), r .mail .hands, first-map (λ x. eqb (x .to) (actorId s (runner s - 1))) (handAt s) (r .mail .palms))
         (ap (map (handAt s)) (first-only (λ a. eqb (actorId s a) (actorId s (runner s - 1))) (r .mail .palms) (runner s - 1) (r .mail .allPalms (runner s - 1) ∙ rw p) hand-own))
 
   -- "The payload in hand is shown": what is shown are the bytes of the message that the reckoning has in the caller's hand
-  pub show-hand : ruled showEntry k s .ans ≡ bytesOf (inHand l)
+  pub show-hand : ruled showEntry k s .ans ≡ shows (inHand l)
   unfolding ruled
   show-hand =
-      split (eqb (runner s) 0) (λ q. rw (q, hand-idle q))
-      (λ q. split (eqb (at s HAND (runner s - 1)) 0) (λ p. rw (q, p, hand-none q p)) (λ p. rw (q, p, hand-some q p)))
+      rw (text-shows (inHand l)) (split (eqb (runner s) 0) (λ q. rw (q, hand-idle q))
+      (λ q. split (eqb (at s HAND (runner s - 1)) 0) (λ p. rw (q, p, hand-none q p)) (λ p. rw (q, p, hand-some q p))))

@@ -27,7 +27,7 @@ use Rattle.rules.specs.Sound.{soundRule, viewOf}
 use Rattle.rules.specs.Calls.{entry, exitEntry, refusal, ruled}
 use Rattle.rules.specs.Run.{step}
 use Rattle.rules.specs.Story.{Aims, Begun, Meets, Story, begins, capsFrom, startless}
-use Rattle.rules.specs.Agrees.{Agrees, arrivals, boxAt, handAt, linkAt, monitorAt, timerAt}
+use Rattle.rules.specs.Agrees.{Agrees, arrivals, boxAt, handAt, letter, linkAt, monitorAt, timerAt}
 use Rattle.rules.proofs.ColumnLaws.{of-alive}
 use Rattle.rules.proofs.Departed.{Nothing}
 use Rattle.rules.proofs.Exit.{exit-leaves-nothing}
@@ -55,9 +55,9 @@ module _ (k : Caps) (s : State) (l : Ledger) (g : Good k s) (r : Agrees k l s) (
   pub nothing-aimed : (id ≡ 0 → ⊥) → known l id ≡ false → Unaimed id l
   nothing-aimed z n = record {
     nothing = record {
-      boxes = rw (r .mail .boxes, some-map (λ m. eqb (m .to) id) (boxAt s) (arrivals s))
+      boxes = rw (sym (some-map (λ x. eqb (x .to) id) letter (l .mail .boxes)), r .mail .boxes, some-map (λ x. eqb (x .to) id) (boxAt s) (arrivals s))
           (some-no (λ e. eqb (actorId s (at s MAIL-OWNER e - 1)) id) (arrivals s) (λ e o. another n _ (box-owner k s g l r e o)));
-      hands = rw (r .mail .hands, some-map (λ m. eqb (m .to) id) (handAt s) (r .mail .palms))
+      hands = rw (sym (some-map (λ x. eqb (x .to) id) letter (l .mail .hands)), r .mail .hands, some-map (λ x. eqb (x .to) id) (handAt s) (r .mail .palms))
           (some-no (λ a. eqb (actorId s a) id) (r .mail .palms) (λ a o. another n a (palm-owner k s g l r a o)));
       timers = rw (r .time .timers, some-map (λ t. eqb (t .owner) id) (timerAt s) (r .time .clocks))
           (some-no (λ i. eqb (actorId s (at s TIMER-OWNER i - 1)) id) (r .time .clocks) (λ i o. another n _ (clock-owner k s g l r i o)));

@@ -14,7 +14,7 @@ use Rattle.ledger.specs.Call.Call.{op}
 use Rattle.ledger.specs.Call.Found.{all, nothing, waits}
 use Rattle.ledger.specs.Call.Why.{full}
 use Rattle.ledger.specs.Call.Op.{spawn, next, yield, notify, receive, show, shown, after, every, cancel, link, unlink, monitor, demonitor, exit, advance, report}
-use Rattle.ledger.specs.Ledger.{Ledger, Message}
+use Rattle.ledger.specs.Ledger.{Ledger, Message, Says}
 use Rattle.ledger.specs.Reckon.{cleared, departed, endLinks, endMonitors, endTimers, entered, gone, later, letGo as released, linked, message, notices, page, short, taken, ticks, verdict, wanted}
 use Rattle.ledger.specs.Room.{holds, idle}
 use Rattle.pools.proofs.BoolLaws.{split, true-false}
@@ -139,7 +139,7 @@ proved (notify to tag payload) = record {
   speaks = inl (λ m. refl);
   ages = λ k s. still (beside-notify to tag payload k s) refl;
   page = record {
-    order = λ r l. within-all (l .mail .boxes ++ (message to (l .people .running) 0 tag payload ∷ []));
+    order = λ r l. within-all (l .mail .boxes ++ (message to (l .people .running) (Says.wrote tag payload) ∷ []));
     boxes = λ n l. refl;
     knows = λ id r l d e. e;
     knew = λ id n l e. e;
