@@ -1,25 +1,39 @@
--- A host call, for any rule: the two ways through it, that no second answer meets its promise, and when it answers 7. Assumes nothing.
+-- A host call: the two ways through it, that no second answer meets its promise, and when it answers 7. Assumes nothing.
 use Prim.Native.Nat.{ℕ}
 use mathlib.Core.Path.{_≡_, refl, sym, ap, _∙_}
 use mathlib.Core.Bool.{Bool, true, false}
 use mathlib.Core.List.{List}
+use Rattle.ledger.specs.Call.{Answer, Call, Op}
+use Rattle.ledger.specs.Call.Answer.{plain}
+use Rattle.ledger.specs.Call.Call.{start, op}
 use Rattle.tables.specs.declared.Caps.{Caps}
 use Rattle.tables.specs.State.{State, view, capsOf, joinW, joinP, Left, Room}
 use Rattle.tables.proofs.ViewLaws.{join-view}
 use Rattle.rules.specs.Rule.{test, Holds}
 use Rattle.rules.specs.Sound.{fitRule, rangeRule, soundRule, viewOf, Ready}
-use Rattle.rules.specs.Calls.{Out}
-use Rattle.rules.specs.Host.{Called, Started, canStart, fresh}
+use Rattle.rules.specs.declared.Made.{Made}
+use Rattle.rules.specs.declared.Turn.{Turn}
+use Rattle.rules.specs.declared.Received.{Received}
+use Rattle.rules.specs.declared.Shown.{Shown}
+use Rattle.rules.specs.declared.Ended.{Ended}
+use Rattle.rules.specs.declared.Advanced.{Advanced}
+use Rattle.rules.specs.declared.Report.{Report}
+use Rattle.rules.specs.Calls.{Ans, Out, Shape, entry, ruled}
+use Rattle.rules.specs.Calls.Shape.{aNumber, anId, aTurn, aMessage, aPart, aPlace, anEnd, anAdvance, aReport}
+use Rattle.rules.specs.Host.{Called, Gives, Started, canStart, fresh}
+use Rattle.rules.specs.Run.{say, seven, step}
+use Rattle.rules.specs.Story.{Meets}
 use Rattle.rules.proofs.RuleLaws.{and-same, reads, broken}
 use Rattle.rules.proofs.SoundLaws.{ready-of, room-of, size-test}
 
+-- ---- for any rule
 module _ {A : Type 0} (seven : A) (rule : Caps → State → Out A) (w p : List ℕ) where
   -- the test said no
-  pub called-no : {b : Bool} → b ≡ test (soundRule w p) → b ≡ false → Called seven rule w p seven w p
+  called-no : {b : Bool} → b ≡ test (soundRule w p) → b ≡ false → Called seven rule w p seven w p
   called-no e q = let t = sym e ∙ q in record { ans = rw t; words = rw t; bytes = rw t }
 
   -- the test said yes, and the function inside followed the rule
-  pub called-yes : {b : Bool} {k : Caps} {r : A} {w′ p′ : List ℕ} →
+  called-yes : {b : Bool} {k : Caps} {r : A} {w′ p′ : List ℕ} →
       b ≡ test (soundRule w p) → b ≡ true → k ≡ capsOf w → r ≡ rule k (view k w p) .ans → Left k (rule k (view k w p) .state) w′ p′ → Called seven rule w p r w′ p′
   called-yes {b} {k} {r} {w′} {p′} e q z a l =
       let t = sym e ∙ q in
@@ -30,16 +44,6 @@ module _ {A : Type 0} (seven : A) (rule : Caps → State → Out A) (w p : List 
         words = rw t (sym (j .0) ∙ ap joinW v);
         bytes = rw t (sym (j .1) ∙ ap joinP v);
       }
-
-  -- the same of a rule that changes nothing
-  pub called-still : {b : Bool} {k : Caps} {r : A} → ((k : Caps) (s : State) → rule k s .state ≡ s) →
-      b ≡ test (soundRule w p) → b ≡ true → k ≡ capsOf w → Room k w p → r ≡ rule k (view k w p) .ans → Called seven rule w p r w p
-  called-still {b} {k} {r} still e q z room a = called-yes e q z a (record { is = sym (still k (view k w p)); room = room })
-
-  -- FIRMNESS: no second answer and no second pair of buffers meets the promise
-  pub called-once : {r r₂ : A} {w′ w₂ p′ p₂ : List ℕ} → Called seven rule w p r w′ p′ → Called seven rule w p r₂ w₂ p₂ →
-      (r ≡ r₂) × (w′ ≡ w₂) × (p′ ≡ p₂)
-  called-once c d = (c .ans ∙ sym (d .ans), c .words ∙ sym (d .words), c .bytes ∙ sym (d .bytes))
 
   -- buffers that hold no sound runtime: the answer is 7's, and nothing has changed
   pub called-broken : {r : A} {w′ p′ : List ℕ} → (Holds (soundRule w p) → ⊥) → Called seven rule w p r w′ p′ → (r ≡ seven) × (w′ ≡ w) × (p′ ≡ p)
@@ -54,6 +58,45 @@ module _ {A : Type 0} (seven : A) (rule : Caps → State → Out A) (w p : List 
 pub called-ready : (w p : List ℕ) {b : Bool} {k : Caps} → b ≡ test (soundRule w p) → b ≡ true → k ≡ capsOf w → Ready k w p
 called-ready w p e q z = rw z (ready-of (capsOf w) w p (reads (soundRule w p) .0 (sym e ∙ q)))
 
+-- ---- for any operation
+module _ (o : Op) (w p : List ℕ) where
+  -- the test said no
+  pub meets-no : {b : Bool} → b ≡ test (soundRule w p) → b ≡ false → Meets (op o) w p (seven o) w p
+  meets-no = called-no (seven o) (step o) w p
+
+  -- the test said yes, and the function inside followed the rule
+  pub meets-yes : {b : Bool} {k : Caps} {r : Ans (entry o .shape)} {w′ p′ : List ℕ} →
+      b ≡ test (soundRule w p) → b ≡ true → k ≡ capsOf w → Gives (ruled (entry o)) k w p r w′ p′ → Meets (op o) w p (say (entry o .shape) r) w′ p′
+  meets-yes e q z g = called-yes (seven o) (step o) w p e q z (ap (say (entry o .shape)) (g .0)) (g .1)
+
+  -- the same of a rule that changes nothing
+  pub meets-still : {b : Bool} {k : Caps} {r : Ans (entry o .shape)} → ((k : Caps) (s : State) → ruled (entry o) k s .state ≡ s) →
+      b ≡ test (soundRule w p) → b ≡ true → k ≡ capsOf w → Room k w p → r ≡ ruled (entry o) k (view k w p) .ans → Meets (op o) w p (say (entry o .shape) r) w p
+  meets-still {b} {k} {r} still e q z room a = meets-yes e q z (a, record { is = sym (still k (view k w p)); room = room })
+
+-- ---- FIRMNESS, of every call, start among them
+-- no second answer and no second pair of buffers meets the promise
+pub meets-once : (c : Call) (w p : List ℕ) {r r₂ : Answer} {w′ w₂ p′ p₂ : List ℕ} → Meets c w p r w′ p′ → Meets c w p r₂ w₂ p₂ → (r ≡ r₂) × (w′ ≡ w₂) × (p′ ≡ p₂)
+meets-once (start z) w p = λ c d. (c .ans ∙ sym (d .ans), c .words ∙ sym (d .words), c .bytes ∙ sym (d .bytes))
+meets-once (op o) w p = λ c d. (c .ans ∙ sym (d .ans), c .words ∙ sym (d .words), c .bytes ∙ sym (d .bytes))
+
+-- and of the struct that C gets nothing is lost where the reckoning has it as an answer
+pub say-once : (h : Shape) (a b : Ans h) → say h a ≡ say h b → a ≡ b
+say-once aNumber a b e = cc
+say-once anId a b e = let f : _≡_ {A = Made} (record { no = a .no; id = a .id }) (record { no = b .no; id = b .id }) = cc in f
+say-once aTurn a b e = let f : _≡_ {A = Turn} (record { no = a .no; id = a .id; reason = a .reason; sleep = a .sleep }) (record { no = b .no; id = b .id; reason = b .reason; sleep = b .sleep }) = cc in f
+say-once aMessage a b e = let f : _≡_ {A = Received} (record { no = a .no; sender = a .sender; class = a .class; tag = a .tag; length = a .length }) (record { no = b .no; sender = b .sender; class = b .class; tag = b .tag; length = b .length }) = cc in f
+say-once aPart a b e = cc
+say-once aPlace a b e = let f : _≡_ {A = Shown} (record { no = a .no; offset = a .offset; length = a .length }) (record { no = b .no; offset = b .offset; length = b .length }) = cc in f
+say-once anEnd a b e = let f : _≡_ {A = Ended} (record { no = a .no; sent = a .sent; lost = a .lost }) (record { no = b .no; sent = b .sent; lost = b .lost }) = cc in f
+say-once anAdvance a b e = let f : _≡_ {A = Advanced} (record { no = a .no; fired = a .fired }) (record { no = b .no; fired = b .fired }) = cc in f
+say-once aReport a b e = let f : _≡_ {A = Report} (record { no = a .no; free = a .free }) (record { no = b .no; free = b .free }) = cc in f
+
+-- so no second struct meets it
+pub struct-once : (o : Op) (w p : List ℕ) (a b : Ans (entry o .shape)) {w′ w₂ p′ p₂ : List ℕ} →
+    Meets (op o) w p (say (entry o .shape) a) w′ p′ → Meets (op o) w p (say (entry o .shape) b) w₂ p₂ → a ≡ b
+struct-once o w p a b c d = say-once (entry o .shape) a b (meets-once (op o) w p c d .0)
+
 -- ---- start
 -- the capacities fit the buffers exactly where a start can be done
 can-fit : (k : Caps) (w p : List ℕ) → canStart k w p ≡ test (fitRule k (view k w p))
@@ -61,14 +104,14 @@ can-fit k w p = and-same {a = test (rangeRule k)} refl (sym (size-test k w p))
 
 module _ (k : Caps) (w p : List ℕ) where
   -- they do, and the buffers were begun afresh
-  pub started-yes : {b : Bool} {w′ p′ : List ℕ} → b ≡ test (fitRule k (view k w p)) → b ≡ true → Left k (fresh k (view k w p)) w′ p′ → Started k w p 0 w′ p′
+  pub started-yes : {b : Bool} {w′ p′ : List ℕ} → b ≡ test (fitRule k (view k w p)) → b ≡ true → Left k (fresh k (view k w p)) w′ p′ → Started k w p (plain 0) w′ p′
   started-yes {b} {w′} {p′} e q l =
       let t : canStart k w p ≡ true = can-fit k w p ∙ sym e ∙ q in
       let j = join-view k w′ p′ in
       record { ans = rw t; words = rw t (sym (j .0) ∙ ap joinW (l .is)); bytes = rw t (sym (j .1) ∙ ap joinP (l .is)) }
 
   -- they do not
-  pub started-no : {b : Bool} → b ≡ test (fitRule k (view k w p)) → b ≡ false → Started k w p 1 w p
+  pub started-no : {b : Bool} → b ≡ test (fitRule k (view k w p)) → b ≡ false → Started k w p (plain 1) w p
   started-no e q =
       let t : canStart k w p ≡ false = can-fit k w p ∙ sym e ∙ q in
       record { ans = rw t; words = rw t; bytes = rw t }

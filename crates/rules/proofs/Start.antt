@@ -8,6 +8,8 @@ use mathlib.Core.List.{List, [], _∷_}
 use lib.ListN.{length, getD, replicate, length-replicate, List·getD-eq-default}
 use lib.Dec.{ltb, leb}
 use borrow.Author.Tests.{ne-eqb, lt-ltb, le-ltb, ltb-true, ltb-false, leb-true}
+use Rattle.ledger.specs.Call.{Answer, number}
+use Rattle.ledger.specs.Call.Answer.{plain}
 use Rattle.ledger.specs.Ledger.{nothing}
 use Rattle.pools.specs.Pool.{occurs}
 use Rattle.pools.specs.Bits.{bit, free, WORD-BITS}
@@ -207,7 +209,7 @@ can-room k w p e =
     }
 
 -- THE THEOREM: a start that answers 0 leaves sound buffers, with the capacities asked for, that hold nothing; any other answers 1 and changes nothing
-pub started : (k : Caps) (w p : List ℕ) (r : ℕ) (w′ p′ : List ℕ) → Started k w p r w′ p′ → r ≡ 0 →
+pub started : (k : Caps) (w p : List ℕ) (r : Answer) (w′ p′ : List ℕ) → Started k w p r w′ p′ → number r ≡ 0 →
     Holds (soundRule w′ p′) × (capsOf w′ ≡ k) × Agrees k (nothing (sizesOf k)) (viewOf w′ p′)
 started k w p r w′ p′ c e =
     split (canStart k w p)
@@ -215,12 +217,8 @@ started k w p r w′ p′ c e =
     let z = sized-view k w p room in
     let j = join-sound k (fresh k (view k w p)) (fresh-good k (view k w p) (room .caps) z) in
     rw (rw q at (c .words), rw q at (c .bytes)) (j .0, j .2, rw (j .1) (fresh-agrees k (view k w p) (room .caps) z)))
-    (λ q. absurd (let n : r ≡ 1 = rw q at (c .ans) in omega arith))
+    (λ q. absurd (let n : number r ≡ 1 = ap number (rw q at (c .ans)) in omega arith))
 
-pub start-refused : (k : Caps) (w p : List ℕ) (r : ℕ) (w′ p′ : List ℕ) → Started k w p r w′ p′ → (r ≡ 0 → ⊥) → (r ≡ 1) × (w′ ≡ w) × (p′ ≡ p)
+pub start-refused : (k : Caps) (w p : List ℕ) (r : Answer) (w′ p′ : List ℕ) → Started k w p r w′ p′ → (number r ≡ 0 → ⊥) → (r ≡ plain 1) × (w′ ≡ w) × (p′ ≡ p)
 start-refused k w p r w′ p′ c n =
-    split (canStart k w p) (λ q. absurd (n (rw q at (c .ans)))) (λ q. (rw q at (c .ans), rw q at (c .words), rw q at (c .bytes)))
-
--- FIRMNESS: no second answer and no second pair of buffers meets start's promise
-pub started-once : (k : Caps) (w p : List ℕ) {r r₂ : ℕ} {w′ w₂ p′ p₂ : List ℕ} → Started k w p r w′ p′ → Started k w p r₂ w₂ p₂ → (r ≡ r₂) × (w′ ≡ w₂) × (p′ ≡ p₂)
-started-once k w p c d = (c .ans ∙ sym (d .ans), c .words ∙ sym (d .words), c .bytes ∙ sym (d .bytes))
+    split (canStart k w p) (λ q. absurd (n (ap number (rw q at (c .ans))))) (λ q. (rw q at (c .ans), rw q at (c .words), rw q at (c .bytes)))

@@ -24,9 +24,9 @@ use Rattle.tables.proofs.ViewLaws.{join-view}
 use Rattle.rules.specs.Terms.{actorId, alive, isActor, runner, runnerId}
 use Rattle.rules.specs.Rule.{Holds}
 use Rattle.rules.specs.Sound.{soundRule, viewOf}
-use Rattle.rules.specs.Calls.{entry, exitEntry, refusal, ruled}
-use Rattle.rules.specs.Run.{step}
-use Rattle.rules.specs.Story.{Aims, Begun, Meets, Story, begins, capsFrom, startless}
+use Rattle.rules.specs.Calls.{exitEntry, ruled}
+use Rattle.rules.specs.Run.{seven, step}
+use Rattle.rules.specs.Story.{Aims, Meets, Story, begins, capsFrom, startless}
 use Rattle.rules.specs.Agrees.{Agrees, arrivals, boxAt, handAt, letter, linkAt, monitorAt, timerAt}
 use Rattle.rules.proofs.ColumnLaws.{of-alive}
 use Rattle.rules.proofs.Departed.{Nothing}
@@ -82,9 +82,7 @@ live-known l w p id h = known-same (capsOf w) (viewOf w p) (good-view w p (h .so
 -- THE LAW: after a call that is no start the buffers hold the state that its rule leaves, with the same capacities
 pub line-state : (o : Op) (w p : List ℕ) (r : Answer) (w′ p′ : List ℕ) → Meets (op o) w p r w′ p′ → Holds (soundRule w p) →
     (viewOf w′ p′ ≡ step o (capsOf w) (viewOf w p) .state) × (capsOf w′ ≡ capsOf w)
-line-state o w p r w′ p′ q h =
-    let e = entry o in
-    let x = host-keeps (refusal (e .shape) 7) (ruled e) (step-keeps o) w p (q .ans) w′ p′ (q .called) h in (x .2, x .3)
+line-state o w p r w′ p′ q h = let x = host-keeps (seven o) (step o) (step-keeps o) w p r w′ p′ q h in (x .2, x .3)
 
 -- ---- an id that is over stays so
 -- after any call that is no start
@@ -96,9 +94,9 @@ over-line c l w p r w′ p′ id m h o =
     (over-stays c (capsOf w) (viewOf w p) l id g (h .agrees) (step-keeps c (capsOf w) (viewOf w p) g) (step-agrees c (capsOf w) (viewOf w p) l g (h .agrees)) o)
 
 -- after a start that was refused
-over-refused : (z : Sizes) (w p : List ℕ) (r : Answer) (w′ p′ : List ℕ) (id : ℕ) → Begun z w p r w′ p′ → eqb (number r) 0 ≡ false → Over (viewOf w p) id → Over (viewOf w′ p′) id
+over-refused : (z : Sizes) (w p : List ℕ) (r : Answer) (w′ p′ : List ℕ) (id : ℕ) → Meets (start z) w p r w′ p′ → eqb (number r) 0 ≡ false → Over (viewOf w p) id → Over (viewOf w′ p′) id
 over-refused z w p r w′ p′ id q n o =
-    let h = start-refused (capsFrom z) w p (q .ans) w′ p′ (q .called) (λ e. eqb-false (number r) 0 n (ap number (q .is) ∙ e)) in
+    let h = start-refused (capsFrom z) w p r w′ p′ q (eqb-false (number r) 0 n) in
     rw (h .1, h .2) o
 
 -- after any line that does not begin anew

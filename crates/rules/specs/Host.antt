@@ -5,13 +5,15 @@ use mathlib.Core.Bool.{Bool, cond, _&&_}
 use mathlib.Core.List.{List}
 use lib.ListN.{length, replicate}
 use lib.Dec.{eqb, leb}
+use Rattle.ledger.specs.Call.{Answer}
+use Rattle.ledger.specs.Call.Answer.{plain}
 use Rattle.tables.specs.declared.Caps.{Caps}
 use Rattle.tables.specs.Columns.{ACTORS, DATA-FREE, DATAS, LINKS, MAIL-FREE, MAILS, MONITORS, PAST, PAYLOAD, REST, TIMERS}
 use Rattle.pools.specs.Bits.{WORD-BITS}
 use Rattle.tables.specs.State.{State, capsOf, joinP, joinW, needed, neededP, poke, size, view, Left}
 use Rattle.rules.specs.Rule.{test}
 use Rattle.rules.specs.Sound.{rangeRule, soundRule, viewOf}
-use Rattle.rules.specs.Calls.{Ans, Entry, Out, refusal, ruled}
+use Rattle.rules.specs.Calls.{Out}
 
 -- "Buffers that hold no sound runtime are refused by every call but start": the answer `seven` and nothing changed;
 -- any others give the answer of the rule, and every word and byte is that of the state it leaves
@@ -19,10 +21,6 @@ pub record Called {A : Type 0} (seven : A) (rule : Caps → State → Out A) (w 
   pub ans : r ≡ cond (test (soundRule w p)) (rule (capsOf w) (viewOf w p) .ans) seven
   pub words : w′ ≡ cond (test (soundRule w p)) (joinW (rule (capsOf w) (viewOf w p) .state)) w
   pub bytes : p′ ≡ cond (test (soundRule w p)) (joinP (rule (capsOf w) (viewOf w p) .state)) p
-
--- THE PROMISE of a call by its entry: the rule where the buffers are sound; else 7, zeros beside it, and nothing changed
-abbrev pub Follows : (e : Entry) → (w p : List ℕ) → Ans (e .shape) → (w′ p′ : List ℕ) → Type 0
-Follows e = Called (refusal (e .shape) 7) (ruled e)
 
 -- what a function inside a call does: on buffers that hold a state, the rule's answer, and the rule's state left
 abbrev pub Gives : {A : Type 0} → (Caps → State → Out A) → Caps → (w p : List ℕ) → A → (w′ p′ : List ℕ) → Type 0
@@ -54,7 +52,8 @@ fresh k s = freed DATA-FREE (k .datas) (freed MAIL-FREE (k .mails) (stated k (ze
 abbrev pub canStart : Caps → List ℕ → List ℕ → Bool
 canStart k w p = test (rangeRule k) && (leb (needed k) (length w) && leb (neededP k) (length p))
 
-pub record Started (k : Caps) (w p : List ℕ) (r : ℕ) (w′ p′ : List ℕ) : Type 0 where
-  pub ans : r ≡ cond (canStart k w p) 0 1
+-- what start promises: 0 and a fresh runtime where it can be done; else 1 and nothing changed
+pub record Started (k : Caps) (w p : List ℕ) (r : Answer) (w′ p′ : List ℕ) : Type 0 where
+  pub ans : r ≡ cond (canStart k w p) (plain 0) (plain 1)
   pub words : w′ ≡ cond (canStart k w p) (joinW (fresh k (view k w p))) w
   pub bytes : p′ ≡ cond (canStart k w p) (joinP (fresh k (view k w p))) p
