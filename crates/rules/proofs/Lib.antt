@@ -6,6 +6,7 @@ pub mod CallFrames
 pub mod Claims
 pub mod Clock
 pub mod ColumnLaws
+pub mod Demands
 pub mod Departed
 pub mod Examples
 pub mod Exit

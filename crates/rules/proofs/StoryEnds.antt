@@ -26,7 +26,7 @@ use Rattle.rules.specs.Rule.{Holds}
 use Rattle.rules.specs.Sound.{soundRule, viewOf}
 use Rattle.rules.specs.Calls.{exitEntry, ruled}
 use Rattle.rules.specs.Run.{seven, step}
-use Rattle.rules.specs.Story.{Aims, Meets, Story, begins, capsFrom, startless}
+use Rattle.rules.specs.Story.{Aims, Kept, Meets, Story, begins, capsFrom, line, startless}
 use Rattle.rules.specs.Agrees.{Agrees, arrivals, boxAt, handAt, letter, linkAt, monitorAt, timerAt}
 use Rattle.rules.proofs.ColumnLaws.{of-alive}
 use Rattle.rules.proofs.Departed.{Nothing}
@@ -36,7 +36,7 @@ use Rattle.rules.proofs.Keep.{good-view, host-keeps}
 use Rattle.rules.proofs.LedgerLaws.{alive-slot, bond-ends, box-owner, clock-owner, eye-ends, id-not-zero, known-same, palm-owner, runner-alive, running-is, some-map, some-no, stranger}
 use Rattle.rules.proofs.Over.{Over, over-once, over-stays}
 use Rattle.rules.proofs.Start.{start-refused}
-use Rattle.rules.proofs.Story.{Kept, line, line-kept, story-kept}
+use Rattle.rules.proofs.Story.{line-kept, story-kept}
 use Rattle.rules.proofs.StoryAnswers.{line-answer}
 use Rattle.rules.proofs.Table.{step-agrees, step-keeps}
 

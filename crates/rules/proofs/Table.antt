@@ -300,7 +300,7 @@ work-well (f ∷ fs) n e =
 
 module _ (o : Op) where
   -- what holds of every refusal, and of the work where no test says yes, holds of the rule
-  step-all : (k : Caps) (s : State) (P : Out (Ans (entry o .shape)) → Type 0) → ((y : Why) → P (out (refusal (entry o .shape) (code y)) s)) → (Passed (entry o .tests k s) → P (entry o .work k s)) → P (ruled (entry o) k s)
+  pub step-all : (k : Caps) (s : State) (P : Out (Ans (entry o .shape)) → Type 0) → ((y : Why) → P (out (refusal (entry o .shape) (code y)) s)) → (Passed (entry o .tests k s) → P (entry o .work k s)) → P (ruled (entry o) k s)
   unfolding ruled
   step-all k s P f g = guarded-all (refusal (entry o .shape)) s (entry o .work k s) P (entry o .tests k s) f g
 
