@@ -36,6 +36,7 @@ pub mod RuleLaws
 pub mod Running
 pub mod RunningAgrees
 pub mod SameTests
+pub mod Sleep
 pub mod SoundLaws
 pub mod Start
 pub mod Story

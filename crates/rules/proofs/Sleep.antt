@@ -1,0 +1,149 @@
+-- The time to sleep: no timer is due and no deadline is reached before it has passed, and one is then. Assumes nothing.
+use Prim.Native.Nat.{ℕ, zero, suc, _+_, _-_, _≤_, _<_, min}
+use native.Mathlib.Omega.{arith}
+use mathlib.Core.Path.{_≡_, refl, sym, ap, subst, _∙_}
+use mathlib.Core.Bool.{Bool, true, false, not, _||_}
+use lib.IntN.{ℤ, pos, negsuc}
+use lib.Dec.{eqb, ltb, leb}
+use borrow.Author.Tests.{eqb-true, eqb-false, ltb-true, ltb-false, leb-true, leb-false, le-leb}
+use Rattle.ledger.specs.Call.{Answer, number}
+use Rattle.ledger.specs.Call.Answer.{turn}
+use Rattle.ledger.specs.Call.Op.{next}
+use Rattle.pools.proofs.BoolLaws.{split, true-false, and-left, and-right, and-true}
+use Rattle.tables.specs.declared.Caps.{Caps}
+use Rattle.tables.specs.Columns.{CLOCK, DEADLINE, DUE, QUEUED, TIMER-OWNER}
+use Rattle.tables.specs.Limits.{ALWAYS, LEVELS}
+use Rattle.tables.specs.State.{State, at, head}
+use Rattle.rules.specs.Terms.{runner}
+use Rattle.rules.specs.Actions.{due, earliest}
+use Rattle.rules.specs.Calls.{Sleeps, firstHead, ruled, sleep, wakesBy}
+use Rattle.rules.specs.Run.{step}
+use Rattle.rules.proofs.Good.{Good}
+use Rattle.rules.proofs.LeastLaws.{Least, least-is, no-before}
+
+-- ---- timers and deadlines alike: n entries, each with a word that is 0 where it is not in use, and a time
+module _ (s : State) (used time n : ℕ) where
+  -- one of them is due at t
+  abbrev some : ℕ → Bool
+  some t = not (eqb (earliest s used time t n) 0)
+
+  -- the earliest of those due at t
+  least-at : (t : ℕ) → Least (due s used time t) (at s time) n (earliest s used time t n)
+  least-at t = least-is (due s used time t) (at s time) n
+
+  -- one that is due has a time no later
+  due-time : (t i : ℕ) → due s used time t i ≡ true → at s time i ≤ t
+  due-time t i d = leb-true (at s time i) t (and-right (not (eqb (at s used i) 0)) (leb (at s time i) t) d)
+
+  -- and is due at every time that is no earlier than its own
+  due-from : (t u i : ℕ) → due s used time t i ≡ true → at s time i ≤ u → due s used time u i ≡ true
+  due-from t u i d h = and-true (not (eqb (at s used i) 0)) (leb (at s time i) u) (and-left (not (eqb (at s used i) 0)) (leb (at s time i) t) d) (le-leb (at s time i) u h)
+
+  -- none is due where each would be absurd
+  some-no : (t : ℕ) → ((i : ℕ) → i < n → due s used time t i ≡ true → ⊥) → some t ≡ false
+  some-no t h =
+      split (eqb (earliest s used time t n) 0) (λ q. rw q)
+      (λ q. let z = eqb-false (earliest s used time t n) 0 q in absurd (h (earliest s used time t n - 1) (omega (arith, least-at t .within)) (least-at t .passes z)))
+
+  -- the earliest of all, one up
+  abbrev soonest : ℕ
+  soonest = earliest s used time ALWAYS n
+
+  -- where there is none, none is due, ever
+  pub some-never : ((i : ℕ) → i < n → at s time i ≤ ALWAYS) → eqb soonest 0 ≡ true → (t : ℕ) → some t ≡ false
+  some-never a q t =
+      some-no t (λ i l d. true-false (due s used time ALWAYS i) (due-from t ALWAYS i d (a i l)) (least-at ALWAYS .none (eqb-true soonest 0 q) i l))
+
+  -- before its time none is due
+  pub some-before : eqb soonest 0 ≡ false → (t : ℕ) → t < at s time (soonest - 1) → some t ≡ false
+  some-before q t h =
+      let z = eqb-false soonest 0 q in
+      some-no t (λ i l d.
+      let m = due-time ALWAYS (soonest - 1) (least-at ALWAYS .passes z) in
+      let e = due-time t i d in
+      let o = no-before (at s time i) (at s time (soonest - 1)) i (soonest - 1) (least-at ALWAYS .first z i l (due-from t ALWAYS i d (omega arith))) in
+      omega arith)
+
+  -- and from its time on one is
+  pub some-from : eqb soonest 0 ≡ false → (t : ℕ) → at s time (soonest - 1) ≤ t → some t ≡ true
+  some-from q t h =
+      let z = eqb-false soonest 0 q in
+      let d = due-from ALWAYS t (soonest - 1) (least-at ALWAYS .passes z) h in
+      split (eqb (earliest s used time t n) 0)
+      (λ p. true-false (due s used time t (soonest - 1)) d (least-at t .none (eqb-true (earliest s used time t n) 0 p) (soonest - 1) (omega (arith, least-at ALWAYS .within))))
+      (λ p. rw p)
+
+-- the second of two holds
+or-second : (a b : Bool) → b ≡ true → a || b ≡ true
+or-second true b e = refl
+or-second false b e = e
+
+module _ (k : Caps) (s : State) where
+  -- ---- every time is in range
+  due-always : Good k s → (i : ℕ) → i < k .timers → at s DUE i ≤ ALWAYS
+  due-always g i l =
+      split (eqb (at s TIMER-OWNER i) 0)
+      (λ q. omega (arith, g .timers i l .1 .0 (eqb-true (at s TIMER-OWNER i) 0 q) .0))
+      (λ q. omega (arith, g .timers i l .1 .1 (eqb-false (at s TIMER-OWNER i) 0 q) .1 .0))
+
+  deadline-always : Good k s → (a : ℕ) → a < k .actors → at s DEADLINE a ≤ ALWAYS
+  deadline-always g a l =
+      split (eqb (at s DEADLINE a) 0)
+      (λ q. omega (arith, eqb-true (at s DEADLINE a) 0 q))
+      (λ q. omega (arith, g .waits a l .1 .1 (eqb-false (at s DEADLINE a) 0 q) .1))
+
+  -- THE THEOREM: in a sound state the time to sleep is what one has to be
+  pub sleep-right : Good k s → Sleeps k s (sleep k s)
+  unfolding sleep
+  sleep-right g =
+      let c = head s CLOCK in
+      let i = earliest s TIMER-OWNER DUE ALWAYS (k .timers) in
+      let a = earliest s DEADLINE DEADLINE ALWAYS (k .actors) in
+      let x = at s DUE (i - 1) in
+      let y = at s DEADLINE (a - 1) in
+      let noTimer = some-never s TIMER-OWNER DUE (k .timers) (due-always g) in
+      let noTimerYet = some-before s TIMER-OWNER DUE (k .timers) in
+      let timer = some-from s TIMER-OWNER DUE (k .timers) in
+      let nobody = some-never s DEADLINE DEADLINE (k .actors) (deadline-always g) in
+      let nobodyYet = some-before s DEADLINE DEADLINE (k .actors) in
+      let somebody = some-from s DEADLINE DEADLINE (k .actors) in
+      split (eqb i 0)
+      (λ p. split (eqb a 0)
+      (λ q. rw (p, q) (λ t. rw (noTimer p t, nobody q t)))
+      (λ q. rw (p, q) (λ j l. rw (noTimer p (c + j), nobodyYet q (c + j) (omega arith)), rw (noTimer p (c + (y - c)), somebody q (c + (y - c)) (omega arith)))))
+      (λ p. split (eqb a 0)
+      (λ q. rw (p, q) (λ j l. rw (noTimerYet p (c + j) (omega arith), nobody q (c + j)), rw (timer p (c + (x - c)) (omega arith))))
+      (λ q. rw (p, q) (
+        λ j l. rw (noTimerYet p (c + j) (omega arith), nobodyYet q (c + j) (omega arith)),
+        split (leb x y)
+        (λ r. rw (timer p (c + (min x y - c)) (omega (arith, leb-true x y r))))
+        (λ r. or-second (not (eqb (earliest s TIMER-OWNER DUE (c + (min x y - c)) (k .timers)) 0)) _ (somebody q (c + (min x y - c)) (omega (arith, leb-false x y r)))),
+      )))
+
+  -- no second number is
+  pub sleep-once : (y z : ℤ) → Sleeps k s y → Sleeps k s z → y ≡ z
+  sleep-once (pos d) (pos e) f g =
+      split (ltb d e) (λ q. true-false (wakesBy k s (head s CLOCK + d)) (f .1) (g .0 d (ltb-true d e q)))
+      (λ q. split (ltb e d) (λ r. true-false (wakesBy k s (head s CLOCK + e)) (g .1) (f .0 e (ltb-true e d r)))
+      (λ r. ap pos (omega (arith, ltb-false d e q, ltb-false e d r))))
+  sleep-once (pos d) (negsuc zero) f g = true-false (wakesBy k s (head s CLOCK + d)) (f .1) (g _)
+  sleep-once (pos d) (negsuc (suc n)) f g = absurd g
+  sleep-once (negsuc zero) (pos e) f g = true-false (wakesBy k s (head s CLOCK + e)) (g .1) (f _)
+  sleep-once (negsuc zero) (negsuc zero) f g = refl
+  sleep-once (negsuc zero) (negsuc (suc n)) f g = absurd g
+  sleep-once (negsuc (suc n)) z f g = absurd f
+
+  -- ---- next
+  -- what stands beside a 6 is the time to sleep
+  next-six : (z : ℤ) → step next k s .ans ≡ turn 6 0 0 z → sleep k s ≡ z
+  unfolding ruled
+  next-six z e =
+      split (eqb (runner s) 0)
+      (λ p. split (ltb (firstHead s LEVELS) (head s QUEUED))
+      (λ q. absurd (let n = ap number e in let m : _≡_ {A = ℕ} 0 6 = rw (p, q) at n in omega arith))
+      (λ q. let t : turn 6 0 0 (sleep k s) ≡ turn 6 0 0 z = rw (p, q) at e in cc))
+      (λ p. absurd (let n = ap number e in let m : _≡_ {A = ℕ} 4 6 = rw p at n in omega arith))
+
+  -- THE THEOREM: a next that answers 6 says how long nothing is to be done, to the microsecond, or -1 where nothing ever is
+  pub next-sleep : (z : ℤ) → Good k s → step next k s .ans ≡ turn 6 0 0 z → Sleeps k s z
+  next-sleep z g e = subst (λ (z : ℤ). Sleeps k s z) (next-six z e) (sleep-right g)
