@@ -8,12 +8,12 @@ use lib.Dec.{eqb, ltb}
 use Rattle.pools.specs.Slot.{slotOf}
 use Rattle.pools.proofs.BoolLaws.{split}
 use Rattle.tables.specs.declared.Caps.{Caps}
-use Rattle.tables.specs.Columns.{ARRIVED, CLOCK, HAND, PRIORITY, QUEUE, QUEUED, REASON, RUNNING, STATE, TIMER-OWNER, WATCHED, WATCHER}
+use Rattle.tables.specs.Columns.{AGE, ARRIVED, CLOCK, HAND, PRIORITY, QUEUE, QUEUED, REASON, RUNNING, STATE, TIMER-OWNER, WATCHED, WATCHER}
 use Rattle.tables.specs.Limits.{ACTOR-FACTOR, LEVELS}
 use Rattle.tables.specs.State.{State, at, head}
 use Rattle.rules.specs.Terms.{TIMEOUT, runner}
 use Rattle.rules.specs.Actions.{hasRoom}
-use Rattle.rules.specs.Calls.{Fired, Told, advanceEntry, armEntry, cancelEntry, cutLink, cutLinks, cutMonitor, cutMonitors, demonitorEntry, dropMonitors, dropTimers, exitEntry, farewell, fire, fireAll, firstHead, firstMatch, handOver, linkEntry, linkOf, monitorEntry, nextDue, nextEntry, nextOverdue, notAtAll, notifyEntry, rearm, receiveBare, receiveEntry, rouse, tell, unlinkEntry, yieldEntry}
+use Rattle.rules.specs.Calls.{Fired, Told, advanceEntry, armEntry, cancelEntry, cutLink, cutLinks, cutMonitor, cutMonitors, demonitorEntry, dropMonitors, dropTimers, exitEntry, farewell, fire, fireAll, firstHead, firstMatch, handOver, linkEntry, linkOf, monitorEntry, nextDue, nextEntry, nextOverdue, notAtAll, notifyEntry, rearm, receiveBare, receiveEntry, rouse, spawnEntry, tell, unlinkEntry, yieldEntry}
 use Rattle.rules.proofs.Frame.{Beside, beside-of, beside-over, beside-poke, beside-still, beside-within, wrote-none, wrote-poke}
 use Rattle.rules.proofs.Frames.{LINKED, MAILED, POSTED, TIMED, WATCHES, beside-delist, beside-emptied, beside-run, wrote-arm, wrote-await, wrote-disarm, wrote-leave, wrote-letGo, wrote-post, wrote-ready, wrote-rearm, wrote-tie, wrote-unwait, wrote-unwatch, wrote-watch}
 
@@ -109,6 +109,10 @@ beside-advance micros k s =
     beside-over ADVANCED (beside-over ADVANCED (beside-poke (beside-still [] s) CLOCK 0 _) (beside-fireAll k (k .timers) _) refl) (beside-rouse k (k .actors) _) refl
 
 -- ---- the others
+-- spawn
+pub beside-spawn : (priority : ℕ) (k : Caps) (s : State) → Beside (QUEUED ∷ QUEUE ∷ REASON ∷ STATE ∷ PRIORITY ∷ AGE ∷ []) s (spawnEntry priority .work k s .state)
+beside-spawn priority k s = beside-of (wrote-ready (wrote-poke (wrote-poke (wrote-none s) AGE _ _) PRIORITY _ priority) _ 0)
+
 -- yield
 pub beside-yield : (k : Caps) (s : State) → Beside (QUEUED ∷ QUEUE ∷ REASON ∷ STATE ∷ RUNNING ∷ []) s (yieldEntry .work k s .state)
 beside-yield k s = beside-of (wrote-ready (wrote-poke (wrote-none s) RUNNING 0 0) _ 0)

@@ -29,6 +29,7 @@ pub mod NotVacuous
 pub mod NoticeLaws
 pub mod Over
 pub mod PageLaws
+pub mod Past
 pub mod Patch
 pub mod Ready
 pub mod Rearm

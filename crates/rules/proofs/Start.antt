@@ -199,7 +199,7 @@ module _ (k : Caps) (s : State) (r : InRange k) (z : Sized k s) where
 
 -- ---- in the buffers
 -- a start that can be done has room for its capacities
-can-room : (k : Caps) (w p : List ℕ) → canStart k w p ≡ true → Room k w p
+pub can-room : (k : Caps) (w p : List ℕ) → canStart k w p ≡ true → Room k w p
 can-room k w p e =
     let fits = and-right (test (rangeRule k)) (leb (needed k) (length w) && leb (neededP k) (length p)) e in
     record {

@@ -29,12 +29,12 @@ use Rattle.rules.specs.Calls.{Ans, Out, Shape, entry, firstHead, firstMa
 use Rattle.rules.specs.Calls.Shape.{aNumber, anId, aTurn, aMessage, aPart, aPlace, anEnd, anAdvance, aReport}
 use Rattle.rules.specs.Run.{numbers, said, say, step}
 use Rattle.rules.proofs.Advance.{advance-agrees, advance-keeps, advance-same}
-use Rattle.rules.proofs.Ages.{spawn-ages, still}
+use Rattle.rules.proofs.Ages.{framed, spawn-framed}
 use Rattle.rules.proofs.CallFrames.{beside-advance, beside-arm, beside-cancel, beside-demonitor, beside-exit, beside-link, beside-monitor, beside-next, beside-notify, beside-receive, beside-unlink, beside-yield}
-use Rattle.rules.proofs.Claims.{Agreed, Keeps, Silent, Speaks, Tested}
+use Rattle.rules.proofs.Claims.{Agreed, Framed, Keeps, Silent, Speaks, Tested}
 use Rattle.rules.proofs.Exit.{exit-keeps}
 use Rattle.rules.proofs.ExitAgrees.{exit-agrees, exit-same}
-use Rattle.rules.proofs.Frame.{beside-still}
+use Rattle.rules.proofs.Frame.{Beside, beside-still}
 use Rattle.rules.proofs.Good.{Good}
 use Rattle.rules.proofs.GuardLaws.{Passed, found-well, guarded-all, guarded-heard, guarded-numbers, guarded-yes, oneOf, why-found, why-refuses}
 use Rattle.rules.proofs.Messages.{notify-keeps, receive-keeps}
@@ -73,8 +73,8 @@ pub record Proved (o : Op) : Type 0 where
   pub same : Tested o
   -- its refusals are heard, or it is showing
   pub speaks : Speaks o ⊎ Silent o
-  -- no age falls
-  pub ages : (k : Caps) (s : State) (a : ℕ) → at s AGE a ≤ at (entry o .work k s .state) AGE a
+  -- what its work leaves alone
+  pub leaves : Framed o
   -- its page
   pub page : Paged o
 
@@ -102,7 +102,7 @@ proved (spawn n) = record {
   agrees = spawn-agrees n;
   same = spawn-same n;
   speaks = inl (λ m. refl);
-  ages = spawn-ages n;
+  leaves = spawn-framed n;
   page = record {
     order = λ r l. within-end (within-all (l .mail .boxes));
     boxes = λ m l. refl;
@@ -117,7 +117,7 @@ proved next = record {
   agrees = next-agrees;
   same = next-same;
   speaks = inl (λ m. refl);
-  ages = λ k s. still (beside-next k s) refl;
+  leaves = framed next beside-next refl;
   page = quietly next (λ r l. (refl, refl, refl, refl));
 }
 proved yield = record {
@@ -127,7 +127,7 @@ proved yield = record {
   agrees = yield-agrees;
   same = yield-same;
   speaks = inl (λ m. refl);
-  ages = λ k s. still (beside-yield k s) refl;
+  leaves = framed yield beside-yield refl;
   page = quietly yield (λ r l. (refl, refl, refl, refl));
 }
 proved (notify to tag payload) = record {
@@ -137,7 +137,7 @@ proved (notify to tag payload) = record {
   agrees = notify-agrees to tag payload;
   same = notify-same to tag payload;
   speaks = inl (λ m. refl);
-  ages = λ k s. still (beside-notify to tag payload k s) refl;
+  leaves = framed (notify to tag payload) (beside-notify to tag payload) refl;
   page = record {
     order = λ r l. within-all (l .mail .boxes ++ (message to (l .people .running) (Says.wrote tag payload) ∷ []));
     boxes = λ n l. refl;
@@ -152,7 +152,7 @@ proved (receive sender class tag wait) = record {
   agrees = receive-agrees sender class tag wait;
   same = receive-same sender class tag wait;
   speaks = inl (λ m. refl);
-  ages = λ k s. still (beside-receive sender class tag wait k s) refl;
+  leaves = framed (receive sender class tag wait) (beside-receive sender class tag wait) refl;
   page = record {
     order = λ r l. within-end (within-but (wanted (l .people .running) sender class tag) (l .mail .boxes));
     boxes = λ n l. split (eqb n 5) (λ q. rw q) (λ q. rw q);
@@ -167,7 +167,7 @@ proved show = record {
   agrees = λ k s l g a p. a;
   same = shown-same;
   speaks = inr show-silent;
-  ages = λ k s. still (beside-still [] s) refl;
+  leaves = framed show (λ k s. beside-still [] s) refl;
   page = quietly show (λ r l. (refl, refl, refl, refl));
 }
 proved shown = record {
@@ -177,7 +177,7 @@ proved shown = record {
   agrees = λ k s l g a p. a;
   same = shown-same;
   speaks = inl (λ m. refl);
-  ages = λ k s. still (beside-still [] s) refl;
+  leaves = framed shown (λ k s. beside-still [] s) refl;
   page = quietly shown (λ r l. (refl, refl, refl, refl));
 }
 proved (after n) = record {
@@ -187,7 +187,7 @@ proved (after n) = record {
   agrees = after-agrees n;
   same = after-same n;
   speaks = inl (λ m. refl);
-  ages = λ k s. still (beside-arm n 0 (ltb LONGEST n) k s) refl;
+  leaves = framed (after n) (beside-arm n 0 (ltb LONGEST n)) refl;
   page = quietly (after n) (λ r l. (refl, refl, refl, refl));
 }
 proved (every n) = record {
@@ -197,7 +197,7 @@ proved (every n) = record {
   agrees = every-agrees n;
   same = every-same n;
   speaks = inl (λ m. refl);
-  ages = λ k s. still (beside-arm n n (eqb n 0 || ltb LONGEST n) k s) refl;
+  leaves = framed (every n) (beside-arm n n (eqb n 0 || ltb LONGEST n)) refl;
   page = quietly (every n) (λ r l. (refl, refl, refl, refl));
 }
 proved (cancel id) = record {
@@ -207,7 +207,7 @@ proved (cancel id) = record {
   agrees = cancel-agrees id;
   same = cancel-same id;
   speaks = inl (λ m. refl);
-  ages = λ k s. still (beside-cancel id k s) refl;
+  leaves = framed (cancel id) (beside-cancel id) refl;
   page = quietly (cancel id) (λ r l. (refl, refl, refl, refl));
 }
 proved (link id) = record {
@@ -217,7 +217,7 @@ proved (link id) = record {
   agrees = link-agrees id;
   same = link-same id;
   speaks = inl (λ m. refl);
-  ages = λ k s. still (beside-link id k s) refl;
+  leaves = framed (link id) (beside-link id) refl;
   page = quietly (link id) (λ r l. split (linked l (l .people .running) id) (λ q. rw q (refl, refl, refl, refl)) (λ q. rw q (refl, refl, refl, refl)));
 }
 proved (unlink id) = record {
@@ -227,7 +227,7 @@ proved (unlink id) = record {
   agrees = unlink-agrees id;
   same = unlink-same id;
   speaks = inl (λ m. refl);
-  ages = λ k s. still (beside-unlink id k s) refl;
+  leaves = framed (unlink id) (beside-unlink id) refl;
   page = quietly (unlink id) (λ r l. (refl, refl, refl, refl));
 }
 proved (monitor id) = record {
@@ -237,7 +237,7 @@ proved (monitor id) = record {
   agrees = monitor-agrees id;
   same = monitor-same id;
   speaks = inl (λ m. refl);
-  ages = λ k s. still (beside-monitor id k s) refl;
+  leaves = framed (monitor id) (beside-monitor id) refl;
   page = quietly (monitor id) (λ r l. (refl, refl, refl, refl));
 }
 proved (demonitor id) = record {
@@ -247,7 +247,7 @@ proved (demonitor id) = record {
   agrees = demonitor-agrees id;
   same = demonitor-same id;
   speaks = inl (λ m. refl);
-  ages = λ k s. still (beside-demonitor id k s) refl;
+  leaves = framed (demonitor id) (beside-demonitor id) refl;
   page = quietly (demonitor id) (λ r l. (refl, refl, refl, refl));
 }
 proved (exit reason) = record {
@@ -257,7 +257,7 @@ proved (exit reason) = record {
   agrees = exit-agrees reason;
   same = exit-same reason;
   speaks = inl (λ m. refl);
-  ages = λ k s. still (beside-exit reason k s) refl;
+  leaves = framed (exit reason) (beside-exit reason) refl;
   page = record {
     order = λ r l. within-more (take r (notices l (l .people .running) reason)) (within-those (λ m. not (eqb (m .to) (l .people .running))) (l .mail .boxes));
     boxes = λ n l. refl;
@@ -272,7 +272,7 @@ proved (advance micros) = record {
   agrees = advance-agrees micros;
   same = advance-same micros;
   speaks = inl (λ m. refl);
-  ages = λ k s. still (beside-advance micros k s) refl;
+  leaves = framed (advance micros) (beside-advance micros) refl;
   page = record {
     order = λ r l. subst (λ (m : List Message). Within m (l .mail .boxes ++ ticks r (later micros l))) (sym (fires-boxes r (later micros l))) (within-all (l .mail .boxes ++ ticks r (later micros l)));
     boxes = λ n l. refl;
@@ -287,7 +287,7 @@ proved report = record {
   agrees = λ k s l g a p. a;
   same = λ k s l g a. record {};
   speaks = inl (λ m. refl);
-  ages = λ k s. still (beside-still [] s) refl;
+  leaves = framed report (λ k s. beside-still [] s) refl;
   page = quietly report (λ r l. (refl, refl, refl, refl));
 }
 
@@ -327,7 +327,11 @@ module _ (o : Op) where
 
   -- it lowers no age
   pub ages-grow : (k : Caps) (s : State) (a : ℕ) → at s AGE a ≤ at (step o k s .state) AGE a
-  ages-grow k s a = step-all k s (λ x. at s AGE a ≤ at (x .state) AGE a) (λ y. omega arith) (λ p. proved o .ages k s a)
+  ages-grow k s a = step-all k s (λ x. at s AGE a ≤ at (x .state) AGE a) (λ y. omega arith) (λ p. proved o .leaves .ages k s a)
+
+  -- it leaves alone all but the columns that it writes
+  pub step-frame : (k : Caps) (s : State) → Beside (proved o .leaves .writes) s (step o k s .state)
+  step-frame k s = step-all k s (λ x. Beside (proved o .leaves .writes) s (x .state)) (λ y. beside-still (proved o .leaves .writes) s) (λ p. proved o .leaves .frame k s)
 
   -- it answers one of its numbers
   pub step-numbers : (k : Caps) (s : State) → oneOf (numbers o k s) (number (step o k s .ans)) ≡ true

@@ -4,7 +4,7 @@ use native.Mathlib.Nat.{le-of-suc-le-suc, add-assoc, zero-add, suc-add, zero-mul
 use native.Mathlib.Omega.{arith}
 use mathlib.Core.Path.{_≡_, refl, sym, ap, _∙_}
 use mathlib.Core.List.{List, [], _∷_, _++_, append-assoc}
-use lib.ListN.{length, getD, set, take, drop, replicate, length-take, length-drop, take-append-drop}
+use lib.ListN.{length, getD, set, take, drop, replicate, length-append, length-take, length-drop, take-append-drop}
 use lib.Seq.{take-set-le, drop-set-lt, take-set-lt, drop-set-add, take-at, drop-at, length-take-le, take-nil, drop-nil, take-take, drop-drop, take-append-add, drop-append-add, take-append-le, take-add, paste, length-paste-head, getD-append-add}
 use lib.Dec.{eqb·zero-suc, eqb·suc-zero, eqb·suc-suc}
 use Rattle.tables.specs.State.{State, with-col, poke, cut, sum, glue}
@@ -62,6 +62,21 @@ cut-glue [] f h zero l = refl
 cut-glue [] f h (suc c) l = absurd (omega arith)
 cut-glue (n ∷ ns) f h zero l = take-at (f 0) _ n (h 0 (omega arith))
 cut-glue (n ∷ ns) f h (suc c) l = rw (drop-at (f 0) _ n (h 0 (omega arith))) (cut-glue ns (λ d. f (suc d)) (λ d m. h (suc d) (omega arith)) c (le-of-suc-le-suc l))
+
+-- what is past columns that have their sizes is the last one, and all of them are as long as their sizes and that one
+pub drop-glue : (ns : List ℕ) (f : State) → ((c : ℕ) → c < length ns → length (f c) ≡ getD ns c 0) → drop (sum ns) (glue (length ns) f) ≡ f (length ns)
+unfolding glue
+drop-glue [] f h = refl
+drop-glue (n ∷ ns) f h =
+    ap (λ (m : ℕ). drop (m + sum ns) (f 0 ++ glue (length ns) (λ c. f (suc c)))) (sym (h 0 (omega arith)))
+    ∙ drop-append-add (f 0) _ (sum ns)
+    ∙ drop-glue ns (λ c. f (suc c)) (λ c l. h (suc c) (omega arith))
+
+pub length-glue : (ns : List ℕ) (f : State) → ((c : ℕ) → c < length ns → length (f c) ≡ getD ns c 0) → length (glue (length ns) f) ≡ sum ns + length (f (length ns))
+unfolding glue
+length-glue [] f h = omega arith
+length-glue (n ∷ ns) f h =
+    omega (arith, length-append (f 0) (glue (length ns) (λ c. f (suc c))), h 0 (omega arith), length-glue ns (λ c. f (suc c)) (λ c l. h (suc c) (omega arith)))
 
 -- there is no column past the last one
 pub cut-past : (ns w : List ℕ) (c : ℕ) → length ns < c → cut ns w c ≡ []

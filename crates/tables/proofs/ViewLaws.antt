@@ -14,10 +14,10 @@ use Rattle.pools.proofs.ListLaws.{part-take}
 use Rattle.tables.specs.Limits.{ENTRY-BYTES, WORDS-MOST}
 use Rattle.tables.specs.declared.Caps.{Caps}
 use Rattle.tables.specs.Columns.{PAST, PAYLOAD, REST}
-use Rattle.tables.specs.State.{State, with-col, poke, cut, sum, glue, sizes, sizesP, size, start, needed, view, joinW, joinP, InRange, Room, Left}
+use Rattle.tables.specs.State.{State, with-col, poke, cut, sum, glue, sizes, sizesP, size, start, needed, neededP, view, joinW, joinP, InRange, PastSame, Room, Left}
 use Rattle.tables.specs.Action.{write, blank}
 use Rattle.tables.proofs.LoopLaws.{sets-paste}
-use Rattle.tables.proofs.RowLaws.{cut-put, cut-short, ends-all, cut-full, full-cut, glue-cut, cut-glue, cut-past, take-pasted, drop-pasted, cut-paste, cut-first}
+use Rattle.tables.proofs.RowLaws.{cut-put, cut-short, ends-all, cut-full, full-cut, glue-cut, cut-glue, drop-glue, length-glue, cut-past, take-pasted, drop-pasted, cut-paste, cut-first}
 
 -- ---- this runtime's columns
 -- the formula of words needed is the sum of the columns' sizes
@@ -87,6 +87,11 @@ pub record Sized (k : Caps) (s : State) : Type 0 where
   pub bytes : length (s PAYLOAD) ≡ ENTRY-BYTES * k .datas
   pub past : (c : ℕ) → PAST < c → s c ≡ []
 
+-- the sizes of the columns of the payload buffer, in their row
+sized-bytes : (k : Caps) (s : State) → Sized k s → (d : ℕ) → d < 1 → length (s (PAYLOAD + d)) ≡ getD (sizesP k) d 0
+sized-bytes k s z zero l = z .bytes
+sized-bytes k s z (suc d) l = absurd (omega arith)
+
 -- a state that lies in buffers is what is seen in its own
 pub view-join : (k : Caps) (s : State) → Sized k s → view k (joinW s) (joinP s) ≡ s
 unfolding view joinW joinP
@@ -94,12 +99,31 @@ view-join k s z = fun-ext (λ c.
     split (ltb c PAYLOAD)
     (λ q. rw q (cut-glue (sizes k) s (z .words) c (le-of-suc-le-suc (ltb-true c PAYLOAD q))))
     (λ q. rw q (split (ltb c (suc PAST))
-    (λ r. cut-glue (sizesP k) (λ d. s (PAYLOAD + d)) (λ d l. bytes d l) (c - PAYLOAD) (omega (arith, ltb-true c (suc PAST) r)) ∙ ap s (omega (arith, ltb-false c PAYLOAD q)))
+    (λ r. cut-glue (sizesP k) (λ d. s (PAYLOAD + d)) (sized-bytes k s z) (c - PAYLOAD) (omega (arith, ltb-true c (suc PAST) r)) ∙ ap s (omega (arith, ltb-false c PAYLOAD q)))
     (λ r. cut-past (sizesP k) (glue 1 (λ d. s (PAYLOAD + d))) (c - PAYLOAD) (omega (arith, ltb-false c (suc PAST) r)) ∙ sym (z .past c (ltb-false c (suc PAST) r))))))
-  where
-    bytes : (d : ℕ) → d < 1 → length (s (PAYLOAD + d)) ≡ getD (sizesP k) d 0
-    bytes zero l = z .bytes
-    bytes (suc d) l = absurd (omega arith)
+
+-- in its buffers the columns past the needed words and bytes are what is past them
+pub join-past : (k : Caps) (s : State) → Sized k s →
+    (length (joinW s) ≡ needed k + length (s REST)) × (length (joinP s) ≡ neededP k + length (s PAST)) × (drop (needed k) (joinW s) ≡ s REST) × (drop (neededP k) (joinP s) ≡ s PAST)
+unfolding joinW joinP
+join-past k s z = (
+  omega (arith, length-glue (sizes k) s (z .words), needed-sum k),
+  omega (arith, length-glue (sizesP k) (λ d. s (PAYLOAD + d)) (sized-bytes k s z)),
+  ap (λ (n : ℕ). drop n (glue REST s)) (sym (needed-sum k)) ∙ drop-glue (sizes k) s (z .words),
+  ap (λ (n : ℕ). drop n (glue 1 (λ d. s (PAYLOAD + d)))) (sym (add-zero (neededP k))) ∙ drop-glue (sizesP k) (λ d. s (PAYLOAD + d)) (sized-bytes k s z),
+)
+
+-- THE LAW: a state that has what is past the needed words and bytes from two buffers leaves it there, and both as long as they were
+pub past-same : (k : Caps) (w p : List ℕ) (s : State) → Sized k (view k w p) → Sized k s → (s REST ≡ view k w p REST) × (s PAST ≡ view k w p PAST) → PastSame k w p (joinW s) (joinP s)
+past-same k w p s v z e =
+    let i = join-view k w p in
+    let a = join-past k (view k w p) v in
+    let b = join-past k s z in (
+      omega (arith, ap length (i .0), ap length (e .0), a .0, b .0),
+      omega (arith, ap length (i .1), ap length (e .1), a .1, b .1),
+      b .2 ∙ e .0 ∙ sym (a .2) ∙ ap (drop (needed k)) (i .0),
+      b .3 ∙ e .1 ∙ sym (a .3) ∙ ap (drop (neededP k)) (i .1),
+    )
 
 -- what is seen in buffers with room lies in buffers
 pub sized-view : (k : Caps) (w p : List ℕ) → Room k w p → Sized k (view k w p)

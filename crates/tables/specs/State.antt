@@ -76,6 +76,11 @@ needed k =
 abbrev pub neededP : Caps → ℕ
 neededP k = ENTRY-BYTES * k .datas
 
+-- "Words and bytes past the needed ones are never changed"; and both buffers are as long as they were
+abbrev pub PastSame : Caps → (w p w′ p′ : List ℕ) → Type 0
+PastSame k w p w′ p′ =
+    (length w′ ≡ length w) × (length p′ ≡ length p) × (drop (needed k) w′ ≡ drop (needed k) w) × (drop (neededP k) p′ ≡ drop (neededP k) p)
+
 -- ---- there and back
 unfoldable pub view : Caps → List ℕ → List ℕ → State
 view k w p c = cond (ltb c PAYLOAD) (cut (sizes k) w c) (cut (sizesP k) p (c - PAYLOAD))

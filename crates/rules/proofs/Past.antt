@@ -1,0 +1,79 @@
+-- "Words and bytes past the needed ones are never changed": for every call, on any buffers, which both stay as long as they were. Assumes nothing.
+use Prim.Native.Nat.{ℕ}
+use mathlib.Core.Path.{_≡_, refl}
+use mathlib.Core.List.{List, [], _∷_}
+use Rattle.ledger.specs.Call.{Answer, Call, Op}
+use Rattle.ledger.specs.Call.Call.{start, op}
+use Rattle.pools.proofs.BoolLaws.{split, true-false}
+use Rattle.tables.specs.declared.Caps.{Caps}
+use Rattle.tables.specs.Columns.{PAST, REST}
+use Rattle.tables.specs.State.{State, PastSame, Room, capsOf, joinP, joinW, poke, view, with-col}
+use Rattle.tables.proofs.ViewLaws.{past-same, sized-view}
+use Rattle.rules.specs.Rule.{Holds, test}
+use Rattle.rules.specs.Sound.{soundRule, viewOf}
+use Rattle.rules.specs.Calls.{Out, entry, refusal, ruled}
+use Rattle.rules.specs.Host.{Called, Started, canStart, fresh, freed, stated, zeroed}
+use Rattle.rules.specs.Run.{step}
+use Rattle.rules.specs.Story.{Meets, capsFor, capsFrom}
+use Rattle.rules.proofs.Frame.{apart-at}
+use Rattle.rules.proofs.Good.{Good}
+use Rattle.rules.proofs.HostLaws.{called-broken, called-sound}
+use Rattle.rules.proofs.Keep.{good-view}
+use Rattle.rules.proofs.RuleLaws.{reads}
+use Rattle.rules.proofs.Start.{can-room, fresh-good}
+use Rattle.rules.proofs.Table.{proved, step-frame, step-keeps}
+
+-- what is past the needed words and bytes is left alone
+abbrev pub Spares : (s t : State) → Type 0
+Spares s t = (t REST ≡ s REST) × (t PAST ≡ s PAST)
+
+-- ---- the calls
+-- THE LAW: no call writes there, whatever the state
+pub step-past : (o : Op) (k : Caps) (s : State) → Spares s (step o k s .state)
+step-past o k s =
+    let f = proved o .leaves in
+    let w = step-frame o k s in
+    (w .cols REST (apart-at (REST ∷ PAST ∷ []) (f .writes) (f .past) REST refl), w .cols PAST (apart-at (REST ∷ PAST ∷ []) (f .writes) (f .past) PAST refl))
+
+-- ---- in the buffers
+module _ {A : Type 0} (seven : A) (rule : Caps → State → Out A) (keeps : (k : Caps) (s : State) → Good k s → Good k (rule k s .state)) (spares : (k : Caps) (s : State) → Spares s (rule k s .state)) where
+  -- sound ones, for any rule that keeps them so and does not write there
+  rule-past : (w p : List ℕ) → Holds (soundRule w p) → let s = rule (capsOf w) (viewOf w p) .state in PastSame (capsOf w) w p (joinW s) (joinP s)
+  rule-past w p h =
+      let g = good-view w p h in
+      past-same (capsOf w) w p (rule (capsOf w) (viewOf w p) .state) (g .sized) (keeps (capsOf w) (viewOf w p) g .sized) (spares (capsOf w) (viewOf w p))
+
+  -- and any others, of which nothing changes
+  pub called-past : (w p : List ℕ) (r : A) (w′ p′ : List ℕ) → Called seven rule w p r w′ p′ → PastSame (capsOf w) w p w′ p′
+  called-past w p r w′ p′ c =
+      split (test (soundRule w p))
+      (λ t. let h = reads (soundRule w p) .0 t in let d = called-sound seven rule w p h c in rw (d .1, d .2) (rule-past w p h))
+      (λ t. let d = called-broken seven rule w p (λ h. true-false (test (soundRule w p)) (reads (soundRule w p) .1 h) t) c in rw (d .1, d .2) (refl, refl, refl, refl))
+
+-- a call on sound buffers
+pub past-kept : (o : Op) (w p : List ℕ) → Holds (soundRule w p) → let s = step o (capsOf w) (viewOf w p) .state in PastSame (capsOf w) w p (joinW s) (joinP s)
+past-kept o = rule-past (refusal (entry o .shape) 7) (ruled (entry o)) (step-keeps o) (step-past o)
+
+-- ---- start
+-- it does not write there
+pub fresh-past : (k : Caps) (s : State) → Spares s (fresh k s)
+unfolding fresh freed stated zeroed with-col poke
+fresh-past k s = (refl, refl)
+
+-- on buffers with room for the capacities asked for
+pub fresh-kept : (k : Caps) (w p : List ℕ) → Room k w p → let s = fresh k (view k w p) in PastSame k w p (joinW s) (joinP s)
+fresh-kept k w p r =
+    let z = sized-view k w p r in
+    past-same k w p (fresh k (view k w p)) z (fresh-good k (view k w p) (r .caps) z .sized) (fresh-past k (view k w p))
+
+-- and on any
+pub started-past : (k : Caps) (w p : List ℕ) (r : ℕ) (w′ p′ : List ℕ) → Started k w p r w′ p′ → PastSame k w p w′ p′
+started-past k w p r w′ p′ c =
+    split (canStart k w p)
+    (λ q. rw (rw q at (c .words), rw q at (c .bytes)) (fresh-kept k w p (can-room k w p q)))
+    (λ q. rw (rw q at (c .words), rw q at (c .bytes)) (refl, refl, refl, refl))
+
+-- ---- THE THEOREM, for every call on any buffers: both are as long as they were, and what is past the needed words and bytes is as it was
+pub line-past : (c : Call) (w p : List ℕ) (r : Answer) (w′ p′ : List ℕ) → Meets c w p r w′ p′ → PastSame (capsFor c w) w p w′ p′
+line-past (start z) = λ w p r w′ p′ m. started-past (capsFrom z) w p (m .ans) w′ p′ (m .called)
+line-past (op o) = λ w p r w′ p′ m. called-past (refusal (entry o .shape) 7) (ruled (entry o)) (step-keeps o) (step-past o) w p (m .ans) w′ p′ (m .called)
