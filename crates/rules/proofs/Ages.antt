@@ -32,15 +32,16 @@ aged-le l i a =
     ])
     (λ q. rw (getD-set-other l i a (getD l i 0 + 1) 0 (eqb-false a i q)) (omega arith))
 
--- spawn: "A slot's age is 1 at its first use, one more at each later use"
+-- spawn: "A slot's age is 1 at its first use, one more at each later use", so that none falls
 spawn-ages : (priority : ℕ) (k : Caps) (s : State) (a : ℕ) → at s AGE a ≤ at (spawnEntry priority .work k s .state) AGE a
 unfolding ready push poke with-col
 spawn-ages priority k s a = aged-le (s AGE) (slotFor k s) a
 
+-- and what it leaves alone
 pub spawn-framed : (priority : ℕ) → Framed (spawn priority)
 spawn-framed priority = record { writes = QUEUED ∷ QUEUE ∷ REASON ∷ STATE ∷ PRIORITY ∷ AGE ∷ []; frame = beside-spawn priority; past = refl; ages = spawn-ages priority }
 
--- every other call: it does not write the ages
+-- every other call: it writes neither the ages nor what is past the needed words and bytes
 pub framed : (o : Op) {ws : List ℕ} → ((k : Caps) (s : State) → Beside ws s (entry o .work k s .state)) → apart (AGE ∷ REST ∷ PAST ∷ []) ws ≡ true → Framed o
 framed o {ws} w e = record {
   writes = ws;

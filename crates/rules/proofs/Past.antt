@@ -24,19 +24,19 @@ use Rattle.rules.proofs.Start.{can-room, fresh-good}
 use Rattle.rules.proofs.Table.{proved, step-frame, step-keeps}
 
 -- what is past the needed words and bytes is left alone
-abbrev pub Spares : (s t : State) → Type 0
-Spares s t = (t REST ≡ s REST) × (t PAST ≡ s PAST)
+abbrev pub PastLeft : (s t : State) → Type 0
+PastLeft s t = (t REST ≡ s REST) × (t PAST ≡ s PAST)
 
 -- ---- the calls
 -- THE LAW: no call writes there, whatever the state
-pub step-past : (o : Op) (k : Caps) (s : State) → Spares s (step o k s .state)
+pub step-past : (o : Op) (k : Caps) (s : State) → PastLeft s (step o k s .state)
 step-past o k s =
     let f = proved o .leaves in
     let w = step-frame o k s in
     (w .cols REST (apart-at (REST ∷ PAST ∷ []) (f .writes) (f .past) REST refl), w .cols PAST (apart-at (REST ∷ PAST ∷ []) (f .writes) (f .past) PAST refl))
 
 -- ---- in the buffers
-module _ {A : Type 0} (seven : A) (rule : Caps → State → Out A) (keeps : (k : Caps) (s : State) → Good k s → Good k (rule k s .state)) (spares : (k : Caps) (s : State) → Spares s (rule k s .state)) where
+module _ {A : Type 0} (seven : A) (rule : Caps → State → Out A) (keeps : (k : Caps) (s : State) → Good k s → Good k (rule k s .state)) (spares : (k : Caps) (s : State) → PastLeft s (rule k s .state)) where
   -- sound ones, for any rule that keeps them so and does not write there
   rule-past : (w p : List ℕ) → Holds (soundRule w p) → let s = rule (capsOf w) (viewOf w p) .state in PastSame (capsOf w) w p (joinW s) (joinP s)
   rule-past w p h =
@@ -56,7 +56,7 @@ past-kept o = rule-past (refusal (entry o .shape) 7) (ruled (entry o)) (step-kee
 
 -- ---- start
 -- it does not write there
-pub fresh-past : (k : Caps) (s : State) → Spares s (fresh k s)
+pub fresh-past : (k : Caps) (s : State) → PastLeft s (fresh k s)
 unfolding fresh freed stated zeroed with-col poke
 fresh-past k s = (refl, refl)
 

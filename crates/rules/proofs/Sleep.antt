@@ -1,25 +1,32 @@
 -- The time to sleep: no timer is due and no deadline is reached before it has passed, and one is then. Assumes nothing.
 use Prim.Native.Nat.{ℕ, zero, suc, _+_, _-_, _≤_, _<_, min}
 use native.Mathlib.Omega.{arith}
-use mathlib.Core.Path.{_≡_, refl, sym, ap, subst, _∙_}
+use mathlib.Core.Path.{_≡_, refl, sym, ap, subst}
 use mathlib.Core.Bool.{Bool, true, false, not, _||_}
+use mathlib.Core.List.{List}
 use lib.IntN.{ℤ, pos, negsuc}
 use lib.Dec.{eqb, ltb, leb}
 use borrow.Author.Tests.{eqb-true, eqb-false, ltb-true, ltb-false, leb-true, leb-false, le-leb}
-use Rattle.ledger.specs.Call.{Answer, number}
+use Rattle.ledger.specs.Call.{number}
 use Rattle.ledger.specs.Call.Answer.{turn}
+use Rattle.ledger.specs.Call.Call.{op}
 use Rattle.ledger.specs.Call.Op.{next}
 use Rattle.pools.proofs.BoolLaws.{split, true-false, and-left, and-right, and-true}
 use Rattle.tables.specs.declared.Caps.{Caps}
 use Rattle.tables.specs.Columns.{CLOCK, DEADLINE, DUE, QUEUED, TIMER-OWNER}
 use Rattle.tables.specs.Limits.{ALWAYS, LEVELS}
-use Rattle.tables.specs.State.{State, at, head}
+use Rattle.tables.specs.State.{State, at, capsOf, head}
+use Rattle.rules.specs.Rule.{Holds}
+use Rattle.rules.specs.Sound.{soundRule, viewOf}
 use Rattle.rules.specs.Terms.{runner}
 use Rattle.rules.specs.Actions.{due, earliest}
 use Rattle.rules.specs.Calls.{Sleeps, firstHead, ruled, sleep, wakesBy}
 use Rattle.rules.specs.Run.{step}
+use Rattle.rules.specs.Story.{Meets}
 use Rattle.rules.proofs.Good.{Good}
+use Rattle.rules.proofs.Keep.{good-view}
 use Rattle.rules.proofs.LeastLaws.{Least, least-is, no-before}
+use Rattle.rules.proofs.StoryAnswers.{line-answer}
 
 -- ---- timers and deadlines alike: n entries, each with a word that is 0 where it is not in use, and a time
 module _ (s : State) (used time n : ℕ) where
@@ -80,12 +87,14 @@ or-second false b e = e
 
 module _ (k : Caps) (s : State) where
   -- ---- every time is in range
+  -- a due time
   due-always : Good k s → (i : ℕ) → i < k .timers → at s DUE i ≤ ALWAYS
   due-always g i l =
       split (eqb (at s TIMER-OWNER i) 0)
       (λ q. omega (arith, g .timers i l .1 .0 (eqb-true (at s TIMER-OWNER i) 0 q) .0))
       (λ q. omega (arith, g .timers i l .1 .1 (eqb-false (at s TIMER-OWNER i) 0 q) .1 .0))
 
+  -- a deadline
   deadline-always : Good k s → (a : ℕ) → a < k .actors → at s DEADLINE a ≤ ALWAYS
   deadline-always g a l =
       split (eqb (at s DEADLINE a) 0)
@@ -116,11 +125,11 @@ module _ (k : Caps) (s : State) where
       (λ q. rw (p, q) (
         λ j l. rw (noTimerYet p (c + j) (omega arith), nobodyYet q (c + j) (omega arith)),
         split (leb x y)
-        (λ r. rw (timer p (c + (min x y - c)) (omega (arith, leb-true x y r))))
-        (λ r. or-second (not (eqb (earliest s TIMER-OWNER DUE (c + (min x y - c)) (k .timers)) 0)) _ (somebody q (c + (min x y - c)) (omega (arith, leb-false x y r)))),
+            (λ r. rw (timer p (c + (min x y - c)) (omega (arith, leb-true x y r))))
+            (λ r. or-second (not (eqb (earliest s TIMER-OWNER DUE (c + (min x y - c)) (k .timers)) 0)) _ (somebody q (c + (min x y - c)) (omega (arith, leb-false x y r)))),
       )))
 
-  -- no second number is
+  -- FIRMNESS: no second number is, so it is -1 where nothing ever is to be done
   pub sleep-once : (y z : ℤ) → Sleeps k s y → Sleeps k s z → y ≡ z
   sleep-once (pos d) (pos e) f g =
       split (ltb d e) (λ q. true-false (wakesBy k s (head s CLOCK + d)) (f .1) (g .0 d (ltb-true d e q)))
@@ -135,7 +144,7 @@ module _ (k : Caps) (s : State) where
 
   -- ---- next
   -- what stands beside a 6 is the time to sleep
-  next-six : (z : ℤ) → step next k s .ans ≡ turn 6 0 0 z → sleep k s ≡ z
+  pub next-six : (z : ℤ) → step next k s .ans ≡ turn 6 0 0 z → sleep k s ≡ z
   unfolding ruled
   next-six z e =
       split (eqb (runner s) 0)
@@ -147,3 +156,7 @@ module _ (k : Caps) (s : State) where
   -- THE THEOREM: a next that answers 6 says how long nothing is to be done, to the microsecond, or -1 where nothing ever is
   pub next-sleep : (z : ℤ) → Good k s → step next k s .ans ≡ turn 6 0 0 z → Sleeps k s z
   next-sleep z g e = subst (λ (z : ℤ). Sleeps k s z) (next-six z e) (sleep-right g)
+
+-- THE THEOREM: the same of the call, on sound buffers
+pub line-sleep : (z : ℤ) (w p w′ p′ : List ℕ) → Meets (op next) w p (turn 6 0 0 z) w′ p′ → Holds (soundRule w p) → Sleeps (capsOf w) (viewOf w p) z
+line-sleep z w p w′ p′ m h = next-sleep (capsOf w) (viewOf w p) z (good-view w p h) (sym (line-answer next w p (turn 6 0 0 z) w′ p′ m h))

@@ -63,7 +63,7 @@ cut-glue [] f h (suc c) l = absurd (omega arith)
 cut-glue (n ∷ ns) f h zero l = take-at (f 0) _ n (h 0 (omega arith))
 cut-glue (n ∷ ns) f h (suc c) l = rw (drop-at (f 0) _ n (h 0 (omega arith))) (cut-glue ns (λ d. f (suc d)) (λ d m. h (suc d) (omega arith)) c (le-of-suc-le-suc l))
 
--- what is past columns that have their sizes is the last one, and all of them are as long as their sizes and that one
+-- what is past columns that have their sizes is the last one
 pub drop-glue : (ns : List ℕ) (f : State) → ((c : ℕ) → c < length ns → length (f c) ≡ getD ns c 0) → drop (sum ns) (glue (length ns) f) ≡ f (length ns)
 unfolding glue
 drop-glue [] f h = refl
@@ -72,6 +72,7 @@ drop-glue (n ∷ ns) f h =
     ∙ drop-append-add (f 0) _ (sum ns)
     ∙ drop-glue ns (λ c. f (suc c)) (λ c l. h (suc c) (omega arith))
 
+-- and all of them together are as long as their sizes and that one
 pub length-glue : (ns : List ℕ) (f : State) → ((c : ℕ) → c < length ns → length (f c) ≡ getD ns c 0) → length (glue (length ns) f) ≡ sum ns + length (f (length ns))
 unfolding glue
 length-glue [] f h = omega arith
