@@ -5,22 +5,23 @@ use mathlib.Core.Path.{_≡_, refl, sym, ap, subst}
 use mathlib.Core.Bool.{Bool, true, false, not, _||_}
 use mathlib.Core.List.{List}
 use lib.IntN.{ℤ, pos, negsuc}
-use lib.Dec.{eqb, ltb, leb}
-use borrow.Author.Tests.{eqb-true, eqb-false, ltb-true, ltb-false, leb-true, leb-false, le-leb}
+use lib.Seq.{getD-set-same}
+use lib.Dec.{eqb, ltb, leb, lit<}
+use borrow.Author.Tests.{eqb-true, eqb-false, ltb-true, ltb-false, leb-true, leb-false, le-leb, not-false}
 use Rattle.ledger.specs.Call.{number}
 use Rattle.ledger.specs.Call.Answer.{turn}
 use Rattle.ledger.specs.Call.Call.{op}
 use Rattle.ledger.specs.Call.Op.{next}
-use Rattle.pools.proofs.BoolLaws.{split, true-false, and-left, and-right, and-true}
+use Rattle.pools.proofs.BoolLaws.{split, true-false, and-left, and-right, and-true, neither}
 use Rattle.tables.specs.declared.Caps.{Caps}
 use Rattle.tables.specs.Columns.{CLOCK, DEADLINE, DUE, QUEUED, TIMER-OWNER}
 use Rattle.tables.specs.Limits.{ALWAYS, LEVELS}
-use Rattle.tables.specs.State.{State, at, capsOf, head}
+use Rattle.tables.specs.State.{State, at, capsOf, head, poke, with-col}
 use Rattle.rules.specs.Rule.{Holds}
 use Rattle.rules.specs.Sound.{soundRule, viewOf}
 use Rattle.rules.specs.Terms.{runner}
 use Rattle.rules.specs.Actions.{due, earliest}
-use Rattle.rules.specs.Calls.{Sleeps, firstHead, ruled, sleep, wakesBy}
+use Rattle.rules.specs.Calls.{Sleeps, advanceEntry, fireAll, fired, firstHead, nextDue, nextOverdue, out, rouse, ruled, sleep, wakesBy}
 use Rattle.rules.specs.Run.{step}
 use Rattle.rules.specs.Story.{Meets}
 use Rattle.rules.proofs.Good.{Good}
@@ -156,6 +157,45 @@ module _ (k : Caps) (s : State) where
   -- THE THEOREM: a next that answers 6 says how long nothing is to be done, to the microsecond, or -1 where nothing ever is
   pub next-sleep : (z : ℤ) → Good k s → step next k s .ans ≡ turn 6 0 0 z → Sleeps k s z
   next-sleep z g e = subst (λ (z : ℤ). Sleeps k s z) (next-six z e) (sleep-right g)
+
+-- ---- advance: what is to be done at a time is what it finds there
+module _ (k : Caps) (s : State) (t : ℕ) (g : Good k s) (q : wakesBy k s t ≡ false) where
+  -- the clock says t
+  clock-at : head (poke s CLOCK 0 t) CLOCK ≡ t
+  unfolding poke with-col
+  clock-at = getD-set-same (s CLOCK) 0 t 0 (omega (arith, g .sized .words CLOCK (lit< tt)))
+
+  -- no timer is due
+  none-due : nextDue k (poke s CLOCK 0 t) ≡ 0
+  unfolding poke with-col
+  none-due =
+      let e = not-false _ (neither (not (eqb (earliest s TIMER-OWNER DUE t (k .timers)) 0)) (not (eqb (earliest s DEADLINE DEADLINE t (k .actors)) 0)) q .0) in
+      rw clock-at (eqb-true (earliest s TIMER-OWNER DUE t (k .timers)) 0 e)
+
+  -- and no deadline is reached
+  none-overdue : nextOverdue k (poke s CLOCK 0 t) ≡ 0
+  unfolding poke with-col
+  none-overdue =
+      let e = not-false _ (neither (not (eqb (earliest s TIMER-OWNER DUE t (k .timers)) 0)) (not (eqb (earliest s DEADLINE DEADLINE t (k .actors)) 0)) q .1) in
+      rw clock-at (eqb-true (earliest s DEADLINE DEADLINE t (k .actors)) 0 e)
+
+  -- so none fires
+  none-fired : (m : ℕ) → fireAll k m (fired 0 (poke s CLOCK 0 t)) ≡ fired 0 (poke s CLOCK 0 t)
+  unfolding fireAll
+  none-fired zero = refl
+  none-fired (suc m) = rw none-due
+
+  -- and nobody wakes
+  none-roused : (m : ℕ) → rouse k m (poke s CLOCK 0 t) ≡ poke s CLOCK 0 t
+  unfolding rouse
+  none-roused zero = refl
+  none-roused (suc m) = rw none-overdue
+
+-- THE THEOREM: an advance that ends before the time to sleep has passed does nothing but raise the clock
+pub advance-early : (k : Caps) (s : State) (d j : ℕ) → Good k s → sleep k s ≡ pos d → j < d → advanceEntry j .work k s ≡ out (record { no = 0; fired = 0 }) (poke s CLOCK 0 (head s CLOCK + j))
+advance-early k s d j g e l =
+    let w = (subst (λ (z : ℤ). Sleeps k s z) e (sleep-right k s g)) .0 j l in
+    rw (none-fired k s (head s CLOCK + j) g w (k .timers), none-roused k s (head s CLOCK + j) g w (k .actors))
 
 -- THE THEOREM: the same of the call, on sound buffers
 pub line-sleep : (z : ℤ) (w p w′ p′ : List ℕ) → Meets (op next) w p (turn 6 0 0 z) w′ p′ → Holds (soundRule w p) → Sleeps (capsOf w) (viewOf w p) z
