@@ -11,9 +11,9 @@ use Rattle.tables.specs.State.{State, PastSame, Room, capsOf, joinP, joinW, pok
 use Rattle.tables.proofs.ViewLaws.{past-same, sized-view}
 use Rattle.rules.specs.Rule.{Holds, test}
 use Rattle.rules.specs.Sound.{soundRule, viewOf}
-use Rattle.rules.specs.Calls.{Out, entry, refusal, ruled}
+use Rattle.rules.specs.Calls.{Out}
 use Rattle.rules.specs.Host.{Called, Started, canStart, fresh, freed, stated, zeroed}
-use Rattle.rules.specs.Run.{step}
+use Rattle.rules.specs.Run.{seven, step}
 use Rattle.rules.specs.Story.{Meets, capsFor, capsFrom}
 use Rattle.rules.proofs.Frame.{apart-at}
 use Rattle.rules.proofs.Good.{Good}
@@ -52,7 +52,7 @@ module _ {A : Type 0} (seven : A) (rule : Caps → State → Out A) (keeps : (k 
 
 -- a call on sound buffers
 pub past-kept : (o : Op) (w p : List ℕ) → Holds (soundRule w p) → let s = step o (capsOf w) (viewOf w p) .state in PastSame (capsOf w) w p (joinW s) (joinP s)
-past-kept o = rule-past (refusal (entry o .shape) 7) (ruled (entry o)) (step-keeps o) (step-past o)
+past-kept o = rule-past (seven o) (step o) (step-keeps o) (step-past o)
 
 -- ---- start
 -- it does not write there
@@ -67,7 +67,7 @@ fresh-kept k w p r =
     past-same k w p (fresh k (view k w p)) z (fresh-good k (view k w p) (r .caps) z .sized) (fresh-past k (view k w p))
 
 -- and on any
-pub started-past : (k : Caps) (w p : List ℕ) (r : ℕ) (w′ p′ : List ℕ) → Started k w p r w′ p′ → PastSame k w p w′ p′
+pub started-past : (k : Caps) (w p : List ℕ) (r : Answer) (w′ p′ : List ℕ) → Started k w p r w′ p′ → PastSame k w p w′ p′
 started-past k w p r w′ p′ c =
     split (canStart k w p)
     (λ q. rw (rw q at (c .words), rw q at (c .bytes)) (fresh-kept k w p (can-room k w p q)))
@@ -75,5 +75,5 @@ started-past k w p r w′ p′ c =
 
 -- ---- THE THEOREM, for every call on any buffers: both are as long as they were, and what is past the needed words and bytes is as it was
 pub line-past : (c : Call) (w p : List ℕ) (r : Answer) (w′ p′ : List ℕ) → Meets c w p r w′ p′ → PastSame (capsFor c w) w p w′ p′
-line-past (start z) = λ w p r w′ p′ m. started-past (capsFrom z) w p (m .ans) w′ p′ (m .called)
-line-past (op o) = λ w p r w′ p′ m. called-past (refusal (entry o .shape) 7) (ruled (entry o)) (step-keeps o) (step-past o) w p (m .ans) w′ p′ (m .called)
+line-past (start z) = started-past (capsFrom z)
+line-past (op o) = called-past (seven o) (step o) (step-keeps o) (step-past o)
