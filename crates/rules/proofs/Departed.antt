@@ -1,4 +1,4 @@
--- In words of the reckoning: after an exit nothing of the ended actor is left, and notices are lost for want of room alone. Assumes nothing.
+-- In words of the reckoning: after an exit nothing of the ended actor is left. Assumes nothing.
 use Prim.Native.Nat.{ℕ, zero, suc, _+_, _-_, _%_, _≤_, min}
 use native.Mathlib.Omega.{arith}
 use native.Mathlib.Decide.{ℕ-discrete}
@@ -156,35 +156,3 @@ exit-nothing reason k s l g r q h =
           (subst (λ (i : ℕ). some (λ m. eqb (m .target) i && eqb (m .watcher) i) (l .ties .monitors) ≡ false) (sym e) (unwatched-self k s l g r a there)),
       departed-idle (l .people .running) reason _ l,
     )
-
--- ---- how many notices are sent
-module _ (k : Caps) (s : State) (l : Ledger) (g : Good k s) (r : Agrees k l s) where
-  -- where there is no room one of the pools is full
-  none-left : hasRoom k s ≡ false → (mailsLeft l ≡ 0) ⊎ (datasLeft l ≡ 0)
-  none-left q =
-      let e = not-false (eqb (mailsLeft l) 0 || eqb (datasLeft l) 0) (sym (message-room k s g l r) ∙ q) in
-      split (eqb (mailsLeft l) 0) (λ y. inl (eqb-true (mailsLeft l) 0 y)) (λ y. inr (eqb-true (datasLeft l) 0 (rw y at e)))
-
--- as many as there are, and as both message pools have room for
-most : (k : Caps) (l : Ledger) (ns : List Message) (p : Link → Bool) (q : Monitor → Bool) (t : Told) → Good k (t .state) → Along k l ns p q t → t .sent ≡ min (length ns) (min (mailsLeft l) (datasLeft l))
-most k l ns p q t g r =
-    let c = left l (take (t .sent) ns) p q (r .worn) in
-    let n : length (take (t .sent) ns) ≡ t .sent = length-take-le (t .sent) ns (omega (arith, r .count)) in
-    let b : length (l .mail .boxes ++ take (t .sent) ns) ≡ length (l .mail .boxes) + t .sent = length-append (l .mail .boxes) (take (t .sent) ns) ∙ ap (λ (x : ℕ). length (l .mail .boxes) + x) n in
-    let x = boxes-count k (t .state) g c (r .agrees) in
-    let y = datas-count k (t .state) g c (r .agrees) in
-    elim (ℕ-discrete (t .lost) 0) [
-      | yes z ↦ omega (arith, r .count, x, y, b)
-      | no z ↦ ⊎-elim (λ f. omega (arith, r .count, x, y, b, f)) (λ f. omega (arith, r .count, x, y, b, f)) (none-left k (t .state) c g (r .agrees) (r .full z))
-    ]
-
--- "A notice for which either message pool is empty is lost", and no other: once the actor's hand and mailbox are freed
-pub exit-sent : (reason : ℕ) (k : Caps) (s : State) (l : Ledger) → Good k s → Agrees k l s → eqb (runner s) 0 ≡ false → reason ≤ LAST-REASON →
-    ruled (exitEntry reason) k s .ans .sent ≡ min (length (notices l (l .people .running) reason)) (min (mailsLeft (cleared (l .people .running) l)) (datasLeft (cleared (l .people .running) l)))
-unfolding ruled
-exit-sent reason k s l g r q h =
-    let a = runner s - 1 in
-    let run : runner s ≡ suc a = omega (arith, eqb-false (runner s) 0 q) in
-    let z = farewell-along k s l g r a reason run in
-    let e = most k (cleared (runnerId s) l) (notices l (runnerId s) reason) _ _ (farewell k a (runnerId s) reason s) (monitors-cut k s g a reason run .going .good) z in
-    rw (q, le-ltb LAST-REASON reason h) (e ∙ ap (λ (i : ℕ). min (length (notices l i reason)) (min (mailsLeft (cleared i l)) (datasLeft (cleared i l)))) (sym (running-is k s g l r q)))

@@ -1,19 +1,21 @@
 -- Exit, and the reckoning: what it says is there after an exit is what the tables hold. Assumes nothing.
-use Prim.Native.Nat.{ℕ, zero, suc, _+_, _-_, _%_, _≤_, _<_}
+use Prim.Native.Nat.{ℕ, zero, suc, _+_, _-_, _%_, _≤_, _<_, min}
 use native.Mathlib.Omega.{arith}
 use native.Mathlib.Decide.{ℕ-discrete}
 use mathlib.Core.Path.{_≡_, refl, sym, ap, ap₂, subst, _∙_}
+use mathlib.Core.Logic.{_⊎_, inl, inr, ⊎-elim}
 use mathlib.Core.Bool.{Bool, true, false, cond, not, _&&_, _||_, and-false}
 use mathlib.Core.List.{List, [], _∷_, _++_, map, map-map, append-assoc, append-nil}
 use lib.ListN.{length, getD, set, take, length-append, List·getD-eq-default}
-use lib.Seq.{take-all, take-append-le}
+use lib.Seq.{length-take-le, take-all, take-append-le}
 use lib.Dec.{eqb, ltb, lit<}
 use borrow.Author.Tests.{eqb-true, eqb-false, eq-eqb, ne-eqb, ltb-false, le-ltb, not-true}
 use Rattle.ledger.specs.Call.Op.{exit}
 use Rattle.ledger.specs.Ledger.{Actor, Ledger, Link, Message, Monitor, mail, ties, withMail, withTies}
 use Rattle.ledger.specs.Lists.{those, bySlot}
 use Rattle.ledger.specs.Reckon
-use Rattle.ledger.specs.Reckon.{cleared, departed, endLinks, endMonitors, endTimers, entered, gone, linked, notice, notices, sent, wornBy}
+use Rattle.ledger.specs.Reckon.{cleared, departed, endLinks, endMonitors, endTimers, entered, gone, linked, losses, notice, notices, sendings, sent, wornBy}
+use Rattle.ledger.specs.Room.{datasLeft, mailsLeft, messagesLeft}
 use Rattle.pools.specs.Pool.{occurs, Exact}
 use Rattle.pools.specs.Lists.{keep}
 use Rattle.pools.specs.Slot.{idOf, unused}
@@ -27,16 +29,16 @@ use Rattle.records.specs.Header.{packed}
 use Rattle.records.specs.Records.{exitBytes}
 use Rattle.tables.specs.declared.Caps.{Caps}
 use Rattle.tables.specs.Columns.{AGE, LINK-ONE, LINK-TWO, MONITOR-AGE, PRIORITY, RUNNING, STATE, WATCHED, WATCHER}
-use Rattle.tables.specs.Limits.{ACTOR-FACTOR, LAST-REASON, MONITOR-FACTOR}
+use Rattle.tables.specs.Limits.{ACTOR-FACTOR, MONITOR-FACTOR}
 use Rattle.tables.specs.State.{State, at, poke, with-col}
 use Rattle.rules.specs.Terms.{actorId, alive, joins, monitorId, runner, runnerId}
 use Rattle.rules.specs.Agrees.{Agrees, actorAt, isWorn, linkAt, monitorAt}
 use Rattle.rules.specs.Actions.{hasRoom, post}
-use Rattle.rules.specs.Calls.{Told, cutLink, cutLinks, cutMonitor, cutMonitors, dropMonitors, dropTimers, dropped, emptied, exitEntry, farewell, leave, linkOf, ruled, tell, tie, told, unwatch}
-use Rattle.rules.proofs.Claims.{Agreed, Tested}
+use Rattle.rules.specs.Calls.{Told, cutLink, cutLinks, cutMonitor, cutMonitors, dropMonitors, dropTimers, dropped, emptied, farewell, leave, linkOf, missed, noticed, tell, tie, told, unwatch}
+use Rattle.rules.proofs.Claims.{Agreed, Counted, Tested}
 use Rattle.rules.proofs.Good.{Good}
 use Rattle.rules.proofs.ColumnLaws.{other, set-zero}
-use Rattle.rules.proofs.LedgerLaws.{alive-slot, id-eqb, idle-same, map-same-on, running-is, runs-alive, slot-map, those-map}
+use Rattle.rules.proofs.LedgerLaws.{alive-slot, boxes-count, datas-count, id-eqb, idle-same, map-same-on, room-none, running-is, runs-alive, slot-map, those-map}
 use Rattle.rules.proofs.TieLaws
 use Rattle.rules.proofs.TieLaws.{below, ends, keep-in, set-cond, used-inside, worn-ends}
 use Rattle.rules.proofs.AgreeLaws.{agrees-links, agrees-monitors, agrees-people}
@@ -73,7 +75,7 @@ take-more b ns m n e =
 module _ (k : Caps) (l : Ledger) (ns : List Message) (p : Link → Bool) (q : Monitor → Bool) (t : Told) (a b me reason monitor : ℕ) (w : Going k a me (t .state)) (there : alive (t .state STATE) b ≡ true) (r : Along k l ns p q t) where
   -- it is sent
   told-sent : hasRoom k (t .state) ≡ true →
-      Along k l (ns ++ (notice me reason monitor (actorId (t .state) b) ∷ [])) p q (told (t .sent + 1) (t .lost) (post k (t .state) b me (packed 4 1 0) (exitBytes me reason monitor)))
+      Along k l (ns ++ (notice me reason monitor (actorId (t .state) b) ∷ [])) p q (noticed k t b me reason monitor)
   told-sent y =
       let s = t .state in
       let m = notice me reason monitor (actorId s b) in
@@ -88,7 +90,7 @@ module _ (k : Caps) (l : Ledger) (ns : List Message) (p : Link → Bool) (q : Mo
       }
 
   -- it is lost
-  told-lost : hasRoom k (t .state) ≡ false → Along k l (ns ++ (notice me reason monitor (actorId (t .state) b) ∷ [])) p q (told (t .sent) (t .lost + 1) (t .state))
+  told-lost : hasRoom k (t .state) ≡ false → Along k l (ns ++ (notice me reason monitor (actorId (t .state) b) ∷ [])) p q (missed t)
   told-lost y =
       let m = notice me reason monitor (actorId (t .state) b) in
       record {
@@ -121,6 +123,24 @@ untie-along k l ns p q t a b me w there m r =
       count = r .count;
       full = λ h. room-still k (wrote-tie (wrote-none s) e 0 0) refl refl ∙ r .full h;
     }
+
+-- ---- how many are sent
+-- as many as there are, and as there is room for
+along-sent : (k : Caps) (l : Ledger) (ns : List Message) (p : Link → Bool) (q : Monitor → Bool) (t : Told) → Good k (t .state) → Along k l ns p q t → t .sent ≡ min (length ns) (messagesLeft l)
+along-sent k l ns p q t g r =
+    let c = left l (take (t .sent) ns) p q (r .worn) in
+    let n : length (take (t .sent) ns) ≡ t .sent = length-take-le (t .sent) ns (omega (arith, r .count)) in
+    let b : length (l .mail .boxes ++ take (t .sent) ns) ≡ length (l .mail .boxes) + t .sent = length-append (l .mail .boxes) (take (t .sent) ns) ∙ ap (λ (x : ℕ). length (l .mail .boxes) + x) n in
+    let x = boxes-count k (t .state) g c (r .agrees) in
+    let y = datas-count k (t .state) g c (r .agrees) in
+    elim (ℕ-discrete (t .lost) 0) [
+      | yes z ↦ omega (arith, r .count, x, y, b)
+      | no z ↦ ⊎-elim (λ f. omega (arith, r .count, x, y, b, f)) (λ f. omega (arith, r .count, x, y, b, f)) (either (mailsLeft c) (datasLeft c) (room-none k (t .state) g c (r .agrees) (r .full z)))
+    ]
+  where
+    -- the lesser of two is 0 where one of them is
+    either : (a b : ℕ) → min a b ≡ 0 → (a ≡ 0) ⊎ (b ≡ 0)
+    either a b e = elim (ℕ-discrete a 0) [ yes z ↦ inl z | no z ↦ inr (omega arith) ]
 
 -- ---- the links of slot a
 -- there is one with slot c
@@ -436,6 +456,15 @@ module _ (k : Caps) (s : State) (l : Ledger) (g : Good k s) (r : Agrees k l s) (
       (monitors-along k (cleared me l) v a me reason ns p (k .monitors) t (omega arith) (unseen-none k v a me (c .going))
       (links-along k (cleared me l) s₀ a me reason (λ m. false) (k .actors) w (begin-along k (cleared me l) s₀ r₀)))
 
+  -- THE LAW: as many are sent as the reckoning sends
+  pub farewell-sent : farewell k a (actorId s a) reason s .sent ≡ sendings (actorId s a) reason l
+  unfolding sendings
+  farewell-sent = along-sent k (cleared (actorId s a) l) (notices l (actorId s a) reason) _ _ (farewell k a (actorId s a) reason s) (monitors-cut k s g a reason run .going .good) farewell-along
+
+  -- and all others are lost
+  pub farewell-lost : farewell k a (actorId s a) reason s .lost ≡ losses (actorId s a) reason l
+  farewell-lost = rw (← farewell-sent) (omega (arith, farewell-along .count))
+
 -- what is left of a monitor's watcher once the monitors on an actor and then its own are gone
 watcher-left : (n e : ℕ) (seen : Bool) (x v : ℕ) → (ltb e n ≡ false → x ≡ 0) → (v ≡ 0 → ⊥) →
     cond (ltb e n && eqb (cond (ltb e n && seen) 0 x) v) 0 (cond (ltb e n && seen) 0 x) ≡ cond (seen || eqb x v) 0 x
@@ -520,13 +549,14 @@ exit-agrees reason k s l g r p =
     let a = runner s - 1 in
     let run : runner s ≡ suc a = omega (arith, eqb-false (runner s) 0 (p .0)) in
     let t = farewell k a (runnerId s) reason s in
-    subst (λ (i : ℕ). Agrees k (departed i reason (t .sent) l) (leave (dropped k a (t .state)) a)) (sym (running-is k s g l r (p .0))) (departed-agrees k s l g r a reason run)
+    subst (λ (i : ℕ). Agrees k (departed i reason (sendings i reason l) l) (leave (dropped k a (t .state)) a)) (sym (running-is k s g l r (p .0)))
+    (subst (λ (n : ℕ). Agrees k (departed (runnerId s) reason n l) (leave (dropped k a (t .state)) a)) (farewell-sent k s l g r a reason run) (departed-agrees k s l g r a reason run))
 
--- "sent + lost": every notice of the reckoning was sent or lost
-pub exit-counts : (reason : ℕ) (k : Caps) (s : State) (l : Ledger) → Good k s → Agrees k l s → eqb (runner s) 0 ≡ false → reason ≤ LAST-REASON →
-    ruled (exitEntry reason) k s .ans .sent + ruled (exitEntry reason) k s .ans .lost ≡ length (notices l (l .people .running) reason)
-unfolding ruled
-exit-counts reason k s l g r q h =
+-- THE LAW: it answers as many sent and lost as the reckoning sends and loses
+pub exit-counts : (reason : ℕ) → Counted (exit reason)
+exit-counts reason k s l g r p =
     let a = runner s - 1 in
-    let run : runner s ≡ suc a = omega (arith, eqb-false (runner s) 0 q) in
-    rw (q, le-ltb LAST-REASON reason h) (farewell-along k s l g r a reason run .count ∙ ap (λ (i : ℕ). length (notices l i reason)) (sym (running-is k s g l r q)))
+    let run : runner s ≡ suc a = omega (arith, eqb-false (runner s) 0 (p .0)) in
+    let t = farewell k a (runnerId s) reason s in
+    subst (λ (i : ℕ). t .sent ∷ t .lost ∷ [] ≡ sendings i reason l ∷ losses i reason l ∷ []) (sym (running-is k s g l r (p .0)))
+    (ap₂ (λ (x y : ℕ). x ∷ y ∷ []) (farewell-sent k s l g r a reason run) (farewell-lost k s l g r a reason run))

@@ -21,7 +21,7 @@ use Rattle.tables.specs.Action.{push, takeBit}
 use Rattle.rules.specs.Terms.{MESSAGE, actorId, alive, joins, monitorId, runner}
 use Rattle.rules.specs.Sound.{pairRule, senderRule}
 use Rattle.rules.specs.Actions.{enlist, hasRoom, hears, mailFor, post, ready, unwait, wake}
-use Rattle.rules.specs.Calls.{Told, cutLink, cutLinks, cutMonitor, cutMonitors, emptied, linkOf, tell, tie, told, unwatch}
+use Rattle.rules.specs.Calls.{Told, cutLink, cutLinks, cutMonitor, cutMonitors, emptied, linkOf, missed, noticed, tell, tie, told, unwatch}
 use Rattle.rules.specs.Rule.{Holds}
 use Rattle.rules.proofs.Good.{Good}
 use Rattle.rules.proofs.ColumnLaws.{each-set, other}
@@ -88,12 +88,12 @@ emptied-going k s a me g r e =
 -- ---- a notice
 module _ (k : Caps) (t : Told) (a me reason monitor : ℕ) where
   -- there is room for it
-  pub tell-sent : hasRoom k (t .state) ≡ true → tell k t a me reason monitor ≡ told (t .sent + 1) (t .lost) (post k (t .state) a me (packed 4 1 0) (exitBytes me reason monitor))
+  pub tell-sent : hasRoom k (t .state) ≡ true → tell k t a me reason monitor ≡ noticed k t a me reason monitor
   unfolding tell
   tell-sent q = rw q
 
   -- there is none: it is lost
-  pub tell-lost : hasRoom k (t .state) ≡ false → tell k t a me reason monitor ≡ told (t .sent) (t .lost + 1) (t .state)
+  pub tell-lost : hasRoom k (t .state) ≡ false → tell k t a me reason monitor ≡ missed t
   unfolding tell
   tell-lost q = rw q
 

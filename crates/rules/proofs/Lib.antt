@@ -7,11 +7,13 @@ pub mod Claims
 pub mod Clock
 pub mod ColumnLaws
 pub mod Demands
+pub mod Counts
 pub mod Departed
 pub mod Examples
 pub mod Exit
 pub mod ExitAgrees
 pub mod ExitLaws
+pub mod FireLaws
 pub mod Frame
 pub mod Frames
 pub mod Good

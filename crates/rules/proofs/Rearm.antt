@@ -3,15 +3,19 @@ use Prim.Native.Nat.{ℕ, _+_, _-_, _%_, _≤_, _<_}
 use native.Mathlib.Omega.{arith}
 use mathlib.Core.Path.{_≡_, refl, sym, ap, ap₂, subst, _∙_}
 use mathlib.Core.Bool.{Bool, true, false, cond, not, _&&_, _||_}
-use mathlib.Core.List.{[], _∷_, map, map-map}
+use mathlib.Core.List.{List, [], _∷_, map, map-map}
+use lib.ListN.{length, length-map}
 use lib.Seq.{getD-set-same}
 use lib.Dec.{eqb, ltb, leb, lit<}
 use borrow.Author.Tests.{eqb-true, eqb-false, eq-eqb, ne-eqb, not-true}
 use Rattle.ledger.specs.Ledger.{Ledger, time, withTime}
 use Rattle.ledger.specs.Lists.{first, some}
-use Rattle.ledger.specs.Reckon.{rearmed, sooner, soonest, timer}
+use Rattle.ledger.specs.Reckon.{dueNow, rearmed, sooner, soonest, timer}
 use Rattle.pools.specs.Pool.{occurs}
-use Rattle.pools.proofs.BoolLaws.{split, and-left, and-right, and-true}
+use Rattle.pools.specs.Lists.{keep}
+use Rattle.pools.specs.Slot.{unused}
+use Rattle.pools.proofs.BoolLaws.{split, and-left, and-right, and-true, flag≤}
+use Rattle.pools.proofs.ListLaws.{keep-none-on, occurs-head, occurs-tail}
 use Rattle.pools.proofs.SlotLaws.{slot-of-id}
 use Rattle.tables.specs.declared.Caps.{Caps}
 use Rattle.tables.specs.Columns.{CLOCK, DUE, INTERVAL, TIMER-AGE, TIMER-OWNER}
@@ -24,9 +28,10 @@ use Rattle.rules.specs.Sound.{timerRule}
 use Rattle.rules.specs.Actions.{due, earliest}
 use Rattle.rules.specs.Agrees.{Agrees, timerAt}
 use Rattle.rules.specs.Calls.{rearm}
+use Rattle.rules.proofs.FireLaws.{Once, isId, those-most}
 use Rattle.rules.proofs.Good.{Good}
 use Rattle.rules.proofs.ColumnLaws.{each-set, other}
-use Rattle.rules.proofs.LedgerLaws.{first-map, map-same-on, some-map, some-no, some-yes}
+use Rattle.rules.proofs.LedgerLaws.{first-map, map-same-on, some-map, some-no, some-yes, those-map, words-left}
 use Rattle.rules.proofs.TieLaws.{id-eqb}
 use Rattle.rules.proofs.LeastLaws.{Least, before, first-none, first-one, first-same-on, least-is, other-before}
 use Rattle.rules.proofs.Frame.{wrote-none, wrote-poke, wrote-within}
@@ -59,6 +64,14 @@ module _ (k : Caps) (s : State) (i : ℕ) (is : i ≡ earliest s TIMER-OWNER DUE
       let used = not (eqb (at s TIMER-OWNER (i - 1)) 0) in
       let come = leb (at s DUE (i - 1)) (head s CLOCK) in
       (omega (arith, least-of .within), eqb-false (at s TIMER-OWNER (i - 1)) 0 (not-true (eqb (at s TIMER-OWNER (i - 1)) 0) (and-left used come q)), and-right used come q)
+
+-- of a list in which one number alone passes, as many pass as it stands in it
+keep-few : (p : ℕ → Bool) (j : ℕ) (es : List ℕ) → ((e : ℕ) → 0 < occurs e es → p e ≡ true → e ≡ j) → length (keep p es) ≤ occurs j es
+unfolding keep occurs
+keep-few p j [] h = omega arith
+keep-few p j (x ∷ es) h =
+    let i = keep-few p j es (λ e o. h e (occurs-tail e x es o)) in
+    split (p x) (λ q. rw (q, eq-eqb x j (h x (occurs-head x es) q)) (omega arith)) (λ q. rw q (omega arith))
 
 -- ---- the reckoning
 module _ (k : Caps) (l : Ledger) (s : State) (z : Sized k s) (v : InRange k) (a : Agrees k l s) where
@@ -102,7 +115,29 @@ module _ (k : Caps) (l : Ledger) (s : State) (z : Sized k s) (v : InRange k) (a 
   due-same : (e : ℕ) → 0 < occurs e (a .time .clocks) → due s TIMER-OWNER DUE (head s CLOCK) e ≡ leb (at s DUE e) (head s CLOCK)
   due-same e o = rw (ne-eqb (at s TIMER-OWNER e) 0 (clock-used k l s s z v a e o .0))
 
+  -- no two of the reckoning's timers have one id
+  pub once-there : Once l
+  once-there id =
+      rw (a .time .timers, those-map (isId id) (timerAt s) (a .time .clocks), length-map (keep (λ e. eqb (timerId s e) id) (a .time .clocks)) (timerAt s))
+      (omega (
+        arith,
+        keep-few (λ e. eqb (timerId s e) id) (id % TIMER-FACTOR) (a .time .clocks) (λ e o q. sym (slot-of-id TIMER-FACTOR (at s TIMER-AGE e) e (omega (arith, v .fewTimers, clock-used k l s s z v a e o .1))) ∙ ap (λ (i : ℕ). i % TIMER-FACTOR) (eqb-true (timerId s e) id q)),
+        a .time .allClocks (id % TIMER-FACTOR),
+        flag≤ (not (unused (s TIMER-OWNER) (id % TIMER-FACTOR))),
+      ))
+
+  -- no more are due than there are slots
+  pub due-most : length (dueNow l) ≤ k .timers
+  due-most =
+      omega (arith, those-most (λ t. leb (t .due) (l .time .clock)) (l .time .timers), ap length (a .time .timers), length-map (a .time .clocks) (timerAt s), words-left (s TIMER-OWNER) (k .timers) (a .time .clocks) (z .words TIMER-OWNER (lit< tt)) (a .time .allClocks))
+
   module _ (i : ℕ) (is : i ≡ earliest s TIMER-OWNER DUE (head s CLOCK) (k .timers)) where
+    -- none is due on both sides
+    pub due-none : i ≡ 0 → dueNow l ≡ []
+    due-none n =
+        rw (a .time .clock, a .time .timers, those-map (λ t. leb (t .due) (head s CLOCK)) (timerAt s) (a .time .clocks))
+        (ap (map (timerAt s)) (keep-none-on (λ e. leb (at s DUE e) (head s CLOCK)) (a .time .clocks) (λ e o. sym (due-same e o) ∙ least-of k s i is .none n e (clock-used k l s s z v a e o .1))))
+
     -- it is in the list
     least-in : (i ≡ 0 → ⊥) → 0 < occurs (i - 1) (a .time .clocks)
     least-in n = rw (a .time .allClocks (i - 1), ne-eqb (at s TIMER-OWNER (i - 1)) 0 (least-due k s i is n .1)) (omega arith)

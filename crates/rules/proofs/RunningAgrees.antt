@@ -8,7 +8,7 @@ use lib.ListN.{length, getD, set}
 use lib.Seq.{getD-set-same, getD-set-other}
 use lib.Dec.{eqb, ltb, lit<}
 use borrow.Author.Tests.{eqb-true, ne-eqb, ltb-true, not-true, not-false}
-use Rattle.ledger.specs.Call.Op.{next, shown, spawn, yield}
+use Rattle.ledger.specs.Call.Op.{next, shown, spawn, yield, report}
 use Rattle.ledger.specs.Ledger.{Actor, Ledger, Message, people, withPeople}
 use Rattle.ledger.specs.Lists.{first}
 use Rattle.ledger.specs.Reckon.{entered, runs}
@@ -25,9 +25,9 @@ use Rattle.tables.specs.Action.{push, pull}
 use Rattle.rules.specs.Terms.{FREE, RUNNABLE, RUNS, WAITS, actorId, alive, runner}
 use Rattle.rules.specs.Agrees.{Agrees, Letter, actorAt, arrivals, boxAt, handAt, isWorn, letter, linkAt, monitorAt, shows, timerAt}
 use Rattle.rules.specs.Actions.{halt, ready, unwait, wake}
-use Rattle.rules.specs.Calls.{firstHead, reportEntry, ruled, run, showEntry, slotFor}
+use Rattle.rules.specs.Calls.{firstHead, ruled, run, showEntry, slotFor}
 use Rattle.rules.proofs.AgreeLaws.{agrees-people, agrees-still, living}
-use Rattle.rules.proofs.Claims.{Agreed, Tested}
+use Rattle.rules.proofs.Claims.{Agreed, Counted, Tested}
 use Rattle.rules.proofs.Frame.{wrote-none, wrote-poke}
 use Rattle.rules.proofs.Frames.{wrote-ready, wrote-run, wrote-unwait}
 use Rattle.rules.proofs.Good.{Good}
@@ -173,10 +173,8 @@ next-agrees k s l g r h =
     (λ p. rw p r)
 
 -- "the six free counts side by side, in the order of the pool table, worn slots not counted": what the reckoning has left
-pub report-counts : (k : Caps) (s : State) (l : Ledger) → Good k s → Agrees k l s
-    → ruled reportEntry k s .ans .free ≡ actorsLeft l ∷ mailsLeft l ∷ datasLeft l ∷ linksLeft l ∷ monitorsLeft l ∷ timersLeft l ∷ []
-unfolding ruled
-report-counts k s l g r = rw (actors-left k s g l r, mails-left k s g l r, datas-left k s g l r, links-left k s g l r, monitors-left k s g l r, timers-left k s g l r)
+pub report-counts : Counted report
+report-counts k s l g r p = rw (actors-left k s g l r, mails-left k s g l r, datas-left k s g l r, links-left k s g l r, monitors-left k s g l r, timers-left k s g l r)
 
 -- ---- what is shown
 -- the tests of showing, by either call, are the reckoning's

@@ -9,13 +9,13 @@ use lib.ListN.{take}
 use lib.IntN.{ℤ}
 use lib.Dec.{eqb, ltb}
 use borrow.Author.Tests.{eq-eqb, eqb-false, eqb-true, ne-eqb}
-use Rattle.ledger.specs.Call.{Answer, Found, Op, Why, code, firstYes, found, number, numbered, refuses, zeroed}
+use Rattle.ledger.specs.Call.{Answer, Found, Op, Why, code, counted, firstYes, found, number, numbered, refuses, zeroed}
 use Rattle.ledger.specs.Call.Call.{op}
 use Rattle.ledger.specs.Call.Found.{all, nothing, waits}
 use Rattle.ledger.specs.Call.Why.{full}
 use Rattle.ledger.specs.Call.Op.{spawn, next, yield, notify, receive, show, shown, after, every, cancel, link, unlink, monitor, demonitor, exit, advance, report}
 use Rattle.ledger.specs.Ledger.{Ledger, Message, Says}
-use Rattle.ledger.specs.Reckon.{cleared, departed, endLinks, endMonitors, endTimers, entered, gone, later, letGo as released, linked, message, notices, page, short, taken, ticks, verdict, wanted}
+use Rattle.ledger.specs.Reckon.{cleared, departed, endLinks, endMonitors, endTimers, entered, firings, gone, later, letGo as released, linked, message, notices, page, sendings, short, taken, ticks, verdict, wanted}
 use Rattle.ledger.specs.Room.{holds, idle}
 use Rattle.pools.proofs.BoolLaws.{split, true-false}
 use Rattle.tables.specs.declared.Caps.{Caps}
@@ -28,12 +28,12 @@ use Rattle.rules.specs.Agrees.{Agrees}
 use Rattle.rules.specs.Calls.{Ans, Out, Shape, entry, firstHead, firstMatch, notAtAll, ordered, out, receiveBare, refusal, ruled}
 use Rattle.rules.specs.Calls.Shape.{aNumber, anId, aTurn, aMessage, aPart, aPlace, anEnd, anAdvance, aReport}
 use Rattle.rules.specs.Run.{numbers, said, say, step}
-use Rattle.rules.proofs.Advance.{advance-agrees, advance-keeps, advance-same}
+use Rattle.rules.proofs.Advance.{advance-agrees, advance-counts, advance-keeps, advance-same}
 use Rattle.rules.proofs.Ages.{framed, spawn-framed}
 use Rattle.rules.proofs.CallFrames.{beside-advance, beside-arm, beside-cancel, beside-demonitor, beside-exit, beside-link, beside-monitor, beside-next, beside-notify, beside-receive, beside-unlink, beside-yield}
-use Rattle.rules.proofs.Claims.{Agreed, Framed, Keeps, Silent, Speaks, Tested}
+use Rattle.rules.proofs.Claims.{Agreed, Counted, Framed, Keeps, Silent, Speaks, Tested}
 use Rattle.rules.proofs.Exit.{exit-keeps}
-use Rattle.rules.proofs.ExitAgrees.{exit-agrees, exit-same}
+use Rattle.rules.proofs.ExitAgrees.{exit-agrees, exit-counts, exit-same}
 use Rattle.rules.proofs.Frame.{Beside, beside-still}
 use Rattle.rules.proofs.Good.{Good}
 use Rattle.rules.proofs.GuardLaws.{Passed, found-well, guarded-all, guarded-heard, guarded-numbers, guarded-yes, oneOf, why-found, why-refuses}
@@ -41,7 +41,7 @@ use Rattle.rules.proofs.Messages.{notify-keeps, receive-keeps}
 use Rattle.rules.proofs.MessagesAgree.{notify-agrees, notify-same, receive-agrees, receive-same}
 use Rattle.rules.proofs.PageLaws.{Paged, fires-boxes, fires-people, more-some, quietly, those-some, within-all, within-but, within-end, within-more, within-those, Within}
 use Rattle.rules.proofs.Running.{next-keeps, spawn-keeps, yield-keeps}
-use Rattle.rules.proofs.RunningAgrees.{next-agrees, next-same, shown-same, spawn-agrees, spawn-same, yield-agrees, yield-same}
+use Rattle.rules.proofs.RunningAgrees.{next-agrees, next-same, report-counts, shown-same, spawn-agrees, spawn-same, yield-agrees, yield-same}
 use Rattle.rules.proofs.SameTests.{same-first}
 use Rattle.rules.proofs.Ties.{after-keeps, cancel-keeps, demonitor-keeps, every-keeps, link-keeps, monitor-keeps, unlink-keeps}
 use Rattle.rules.proofs.TiesAgree.{after-agrees, after-same, cancel-agrees, cancel-same, demonitor-agrees, demonitor-same, every-agrees, every-same, link-agrees, link-same, monitor-agrees, monitor-same, unlink-agrees, unlink-same}
@@ -69,6 +69,8 @@ pub record Proved (o : Op) : Type 0 where
   pub keeps : Keeps o
   -- and in step with the reckoning
   pub agrees : Agreed o
+  -- the counts that it answers are the reckoning's
+  pub counts : Counted o
   -- its tests are the reckoning's
   pub same : Tested o
   -- its refusals are heard, or it is showing
@@ -84,6 +86,7 @@ show-silent = record {
   mute = λ a. (refl, refl);
   still = λ r l. refl;
   roomy = λ l. split (idle l) (λ q. rw q) (λ q. rw q (split (holds l) (λ p. rw p) (λ p. rw p)));
+  bare = λ a l. refl;
 }
 
 -- receive finds its message, or nothing, or waits
@@ -100,6 +103,7 @@ proved (spawn n) = record {
   works = λ k s. refl;
   keeps = spawn-keeps n;
   agrees = spawn-agrees n;
+  counts = λ k s l g a p. refl;
   same = spawn-same n;
   speaks = inl (λ m. refl);
   leaves = spawn-framed n;
@@ -115,6 +119,7 @@ proved next = record {
   works = λ k s. split (ltb (firstHead s LEVELS) (head s QUEUED)) (λ q. rw q) (λ q. rw q);
   keeps = next-keeps;
   agrees = next-agrees;
+  counts = λ k s l g a p. refl;
   same = next-same;
   speaks = inl (λ m. refl);
   leaves = framed next beside-next refl;
@@ -125,6 +130,7 @@ proved yield = record {
   works = λ k s. refl;
   keeps = yield-keeps;
   agrees = yield-agrees;
+  counts = λ k s l g a p. refl;
   same = yield-same;
   speaks = inl (λ m. refl);
   leaves = framed yield beside-yield refl;
@@ -135,6 +141,7 @@ proved (notify to tag payload) = record {
   works = λ k s. refl;
   keeps = notify-keeps to tag payload;
   agrees = notify-agrees to tag payload;
+  counts = λ k s l g a p. refl;
   same = notify-same to tag payload;
   speaks = inl (λ m. refl);
   leaves = framed (notify to tag payload) (beside-notify to tag payload) refl;
@@ -150,6 +157,7 @@ proved (receive sender class tag wait) = record {
   works = λ k s. receive-works sender class tag wait (runner s - 1) (letGo s (runner s - 1));
   keeps = receive-keeps sender class tag wait;
   agrees = receive-agrees sender class tag wait;
+  counts = λ k s l g a p. refl;
   same = receive-same sender class tag wait;
   speaks = inl (λ m. refl);
   leaves = framed (receive sender class tag wait) (beside-receive sender class tag wait) refl;
@@ -165,6 +173,7 @@ proved show = record {
   works = λ k s. refl;
   keeps = λ k s g p. g;
   agrees = λ k s l g a p. a;
+  counts = λ k s l g a p. refl;
   same = shown-same;
   speaks = inr show-silent;
   leaves = framed show (λ k s. beside-still [] s) refl;
@@ -175,6 +184,7 @@ proved shown = record {
   works = λ k s. refl;
   keeps = λ k s g p. g;
   agrees = λ k s l g a p. a;
+  counts = λ k s l g a p. refl;
   same = shown-same;
   speaks = inl (λ m. refl);
   leaves = framed shown (λ k s. beside-still [] s) refl;
@@ -185,6 +195,7 @@ proved (after n) = record {
   works = λ k s. refl;
   keeps = after-keeps n;
   agrees = after-agrees n;
+  counts = λ k s l g a p. refl;
   same = after-same n;
   speaks = inl (λ m. refl);
   leaves = framed (after n) (beside-arm n 0 (ltb LONGEST n)) refl;
@@ -195,6 +206,7 @@ proved (every n) = record {
   works = λ k s. refl;
   keeps = every-keeps n;
   agrees = every-agrees n;
+  counts = λ k s l g a p. refl;
   same = every-same n;
   speaks = inl (λ m. refl);
   leaves = framed (every n) (beside-arm n n (eqb n 0 || ltb LONGEST n)) refl;
@@ -205,6 +217,7 @@ proved (cancel id) = record {
   works = λ k s. refl;
   keeps = cancel-keeps id;
   agrees = cancel-agrees id;
+  counts = λ k s l g a p. refl;
   same = cancel-same id;
   speaks = inl (λ m. refl);
   leaves = framed (cancel id) (beside-cancel id) refl;
@@ -215,6 +228,7 @@ proved (link id) = record {
   works = λ k s. refl;
   keeps = link-keeps id;
   agrees = link-agrees id;
+  counts = λ k s l g a p. refl;
   same = link-same id;
   speaks = inl (λ m. refl);
   leaves = framed (link id) (beside-link id) refl;
@@ -225,6 +239,7 @@ proved (unlink id) = record {
   works = λ k s. refl;
   keeps = unlink-keeps id;
   agrees = unlink-agrees id;
+  counts = λ k s l g a p. refl;
   same = unlink-same id;
   speaks = inl (λ m. refl);
   leaves = framed (unlink id) (beside-unlink id) refl;
@@ -235,6 +250,7 @@ proved (monitor id) = record {
   works = λ k s. refl;
   keeps = monitor-keeps id;
   agrees = monitor-agrees id;
+  counts = λ k s l g a p. refl;
   same = monitor-same id;
   speaks = inl (λ m. refl);
   leaves = framed (monitor id) (beside-monitor id) refl;
@@ -245,6 +261,7 @@ proved (demonitor id) = record {
   works = λ k s. refl;
   keeps = demonitor-keeps id;
   agrees = demonitor-agrees id;
+  counts = λ k s l g a p. refl;
   same = demonitor-same id;
   speaks = inl (λ m. refl);
   leaves = framed (demonitor id) (beside-demonitor id) refl;
@@ -255,11 +272,12 @@ proved (exit reason) = record {
   works = λ k s. refl;
   keeps = exit-keeps reason;
   agrees = exit-agrees reason;
+  counts = exit-counts reason;
   same = exit-same reason;
   speaks = inl (λ m. refl);
   leaves = framed (exit reason) (beside-exit reason) refl;
   page = record {
-    order = λ r l. within-more (take r (notices l (l .people .running) reason)) (within-those (λ m. not (eqb (m .to) (l .people .running))) (l .mail .boxes));
+    order = λ r l. within-more (take (sendings (l .people .running) reason l) (notices l (l .people .running) reason)) (within-those (λ m. not (eqb (m .to) (l .people .running))) (l .mail .boxes));
     boxes = λ n l. refl;
     knows = λ id r l d e. those-some (λ a. eqb (a .id) id) (λ a. not (eqb (a .id) (l .people .running))) (l .people .live) e;
     knew = λ id n l e. e;
@@ -270,13 +288,14 @@ proved (advance micros) = record {
   works = λ k s. refl;
   keeps = advance-keeps micros;
   agrees = advance-agrees micros;
+  counts = advance-counts micros;
   same = advance-same micros;
   speaks = inl (λ m. refl);
   leaves = framed (advance micros) (beside-advance micros) refl;
   page = record {
-    order = λ r l. subst (λ (m : List Message). Within m (l .mail .boxes ++ ticks r (later micros l))) (sym (fires-boxes r (later micros l))) (within-all (l .mail .boxes ++ ticks r (later micros l)));
+    order = λ r l. subst (λ (m : List Message). Within m (l .mail .boxes ++ ticks (firings (later micros l)) (later micros l))) (sym (fires-boxes (firings (later micros l)) (later micros l))) (within-all (l .mail .boxes ++ ticks (firings (later micros l)) (later micros l)));
     boxes = λ n l. refl;
-    knows = λ id r l d e. rw (fires-people r (later micros l)) at e;
+    knows = λ id r l d e. rw (fires-people (firings (later micros l)) (later micros l)) at e;
     knew = λ id n l e. e;
   };
 }
@@ -285,6 +304,7 @@ proved report = record {
   works = λ k s. refl;
   keeps = λ k s g p. g;
   agrees = λ k s l g a p. a;
+  counts = report-counts;
   same = λ k s l g a. record {};
   speaks = inl (λ m. refl);
   leaves = framed report (λ k s. beside-still [] s) refl;
@@ -324,6 +344,13 @@ module _ (o : Op) where
   step-agrees k s l g a =
       step-all k s (λ x. Agrees k (entered (record { call = op o; answer = say (entry o .shape) (x .ans) }) l) (x .state))
       (λ y. subst (λ (m : Ledger). Agrees k m s) (sym (unmoved y l)) a) (proved o .agrees k s l g a)
+
+  -- THE LAW of counts: a call that answers 0 answers the counts that the reckoning works out from what is there alone
+  pub step-counts : (k : Caps) (s : State) (l : Ledger) → Good k s → Agrees k l s → number (step o k s .ans) ≡ 0 → counted (step o k s .ans) ≡ page o .counts l
+  step-counts k s l g a =
+      step-all k s (λ x. number (say (entry o .shape) (x .ans)) ≡ 0 → counted (say (entry o .shape) (x .ans)) ≡ page o .counts l)
+      (λ y e. ⊎-elim (λ h. absurd (eqb-false (code y) 0 (why-found y all) (sym (h (code y)) ∙ e))) (λ h. h .bare (refusal (entry o .shape) (code y)) l) (proved o .speaks))
+      (λ p e. proved o .counts k s l g a p)
 
   -- it lowers no age
   pub ages-grow : (k : Caps) (s : State) (a : ℕ) → at s AGE a ≤ at (step o k s .state) AGE a
