@@ -2,6 +2,7 @@
 pub mod Advance
 pub mod Ages
 pub mod AgreeLaws
+pub mod BenchRun
 pub mod CallFrames
 pub mod Claims
 pub mod Clock
@@ -40,12 +41,14 @@ pub mod Running
 pub mod RunningAgrees
 pub mod SameTests
 pub mod Sleep
+pub mod SlotLife
 pub mod SoundLaws
 pub mod Start
 pub mod Story
 pub mod StoryAnswers
 pub mod StoryEnds
 pub mod StoryOrder
+pub mod StoryPlays
 pub mod Table
 pub mod TieEnds
 pub mod TieLaws

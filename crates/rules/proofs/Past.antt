@@ -64,7 +64,7 @@ fresh-past k s = (refl, refl)
 pub fresh-kept : (k : Caps) (w p : List ℕ) → Room k w p → let s = fresh k (view k w p) in PastSame k w p (joinW s) (joinP s)
 fresh-kept k w p r =
     let z = sized-view k w p r in
-    past-same k w p (fresh k (view k w p)) z (fresh-good k (view k w p) (r .caps) z .sized) (fresh-past k (view k w p))
+    past-same k w p (fresh k (view k w p)) z (fresh-good k (view k w p) (r .caps) .sized) (fresh-past k (view k w p))
 
 -- and on any
 pub started-past : (k : Caps) (w p : List ℕ) (r : Answer) (w′ p′ : List ℕ) → Started k w p r w′ p′ → PastSame k w p w′ p′

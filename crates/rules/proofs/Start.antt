@@ -19,7 +19,7 @@ use Rattle.tables.specs.Columns.{ACTORS, DATA-FREE, DATAS, LINKS, MAIL-FREE, MA
 use Rattle.tables.specs.Sizes.{BIT-WORDS, COLUMN-BITS, SPARES}
 use Rattle.tables.specs.Limits.{ENTRY-BYTES}
 use Rattle.tables.specs.State.{State, capsOf, head, view, InRange, Room, needed, neededP, size, sizes, with-col, poke}
-use Rattle.tables.proofs.ViewLaws.{Sized, sized-view}
+use Rattle.tables.proofs.ViewLaws.{Sized}
 use Rattle.rules.specs.Rule.{Holds, test}
 use Rattle.rules.specs.Sound.{pairRule, rangeRule, soundRule, viewOf, zeros}
 use Rattle.rules.specs.Terms.{alive}
@@ -76,7 +76,7 @@ four-free n e h =
     (λ r. let z : getD (four n) (e / WORD-BITS) 0 ≡ 0 = List·getD-eq-default (four n) 0 (ltb-false (e / WORD-BITS) BIT-WORDS r) in rw (q, z, bit-none (e % WORD-BITS))))
 
 -- ---- zeros
-zero-at : (n i : ℕ) → _≡_ {A = ℕ} (getD (replicate n 0) i 0) 0
+pub zero-at : (n i : ℕ) → _≡_ {A = ℕ} (getD (replicate n 0) i 0) 0
 zero-at zero i = refl
 zero-at (suc n) zero = refl
 zero-at (suc n) (suc i) = zero-at n i
@@ -88,7 +88,7 @@ zero-occurs (suc n) d = rw (ne-eqb 0 (suc d) (λ e. omega arith)) (omega (arith,
 
 -- ---- each rule, of a state of zeros
 -- a state of which start says every column
-module _ (k : Caps) (s : State) (r : InRange k) (z : Sized k s) where
+module _ (k : Caps) (s : State) (r : InRange k) where
   -- the sizes of its columns
   fresh-sized : Sized k (fresh k s)
   unfolding fresh freed stated zeroed
@@ -214,9 +214,8 @@ pub started : (k : Caps) (w p : List ℕ) (r : Answer) (w′ p′ : List ℕ) �
 started k w p r w′ p′ c e =
     split (canStart k w p)
     (λ q. let room = can-room k w p q in
-    let z = sized-view k w p room in
-    let j = join-sound k (fresh k (view k w p)) (fresh-good k (view k w p) (room .caps) z) in
-    rw (rw q at (c .words), rw q at (c .bytes)) (j .0, j .2, rw (j .1) (fresh-agrees k (view k w p) (room .caps) z)))
+    let j = join-sound k (fresh k (view k w p)) (fresh-good k (view k w p) (room .caps)) in
+    rw (rw q at (c .words), rw q at (c .bytes)) (j .0, j .2, rw (j .1) (fresh-agrees k (view k w p) (room .caps))))
     (λ q. absurd (let n : number r ≡ 1 = ap number (rw q at (c .ans)) in omega arith))
 
 pub start-refused : (k : Caps) (w p : List ℕ) (r : Answer) (w′ p′ : List ℕ) → Started k w p r w′ p′ → (number r ≡ 0 → ⊥) → (r ≡ plain 1) × (w′ ≡ w) × (p′ ≡ p)
