@@ -11,13 +11,6 @@ use Rattle.tables.specs.State.{State, view, capsOf, joinW, joinP, Left, Room}
 use Rattle.tables.proofs.ViewLaws.{join-view}
 use Rattle.rules.specs.Rule.{test, Holds}
 use Rattle.rules.specs.Sound.{fitRule, rangeRule, soundRule, viewOf, Ready}
-use Rattle.rules.specs.declared.Made.{Made}
-use Rattle.rules.specs.declared.Turn.{Turn}
-use Rattle.rules.specs.declared.Received.{Received}
-use Rattle.rules.specs.declared.Shown.{Shown}
-use Rattle.rules.specs.declared.Ended.{Ended}
-use Rattle.rules.specs.declared.Advanced.{Advanced}
-use Rattle.rules.specs.declared.Report.{Report}
 use Rattle.rules.specs.Calls.{Ans, Out, Shape, entry, ruled}
 use Rattle.rules.specs.Calls.Shape.{aNumber, anId, aTurn, aMessage, aPart, aPlace, anEnd, anAdvance, aReport}
 use Rattle.rules.specs.Host.{Called, Gives, Started, canStart, fresh}
@@ -83,14 +76,14 @@ meets-once (op o) w p = λ c d. (c .ans ∙ sym (d .ans), c .words ∙ sym (d .w
 -- and of the struct that C gets nothing is lost where the reckoning has it as an answer
 pub say-once : (h : Shape) (a b : Ans h) → say h a ≡ say h b → a ≡ b
 say-once aNumber a b e = cc
-say-once anId a b e = let f : _≡_ {A = Made} (record { no = a .no; id = a .id }) (record { no = b .no; id = b .id }) = cc in f
-say-once aTurn a b e = let f : _≡_ {A = Turn} (record { no = a .no; id = a .id; reason = a .reason; sleep = a .sleep }) (record { no = b .no; id = b .id; reason = b .reason; sleep = b .sleep }) = cc in f
-say-once aMessage a b e = let f : _≡_ {A = Received} (record { no = a .no; sender = a .sender; class = a .class; tag = a .tag; length = a .length }) (record { no = b .no; sender = b .sender; class = b .class; tag = b .tag; length = b .length }) = cc in f
+say-once anId a b e = let f : _≡_ {A = Ans anId} (record { no = a .no; id = a .id }) (record { no = b .no; id = b .id }) = cc in f
+say-once aTurn a b e = let f : _≡_ {A = Ans aTurn} (record { no = a .no; id = a .id; reason = a .reason; sleep = a .sleep }) (record { no = b .no; id = b .id; reason = b .reason; sleep = b .sleep }) = cc in f
+say-once aMessage a b e = let f : _≡_ {A = Ans aMessage} (record { no = a .no; sender = a .sender; class = a .class; tag = a .tag; length = a .length }) (record { no = b .no; sender = b .sender; class = b .class; tag = b .tag; length = b .length }) = cc in f
 say-once aPart a b e = cc
-say-once aPlace a b e = let f : _≡_ {A = Shown} (record { no = a .no; offset = a .offset; length = a .length }) (record { no = b .no; offset = b .offset; length = b .length }) = cc in f
-say-once anEnd a b e = let f : _≡_ {A = Ended} (record { no = a .no; sent = a .sent; lost = a .lost }) (record { no = b .no; sent = b .sent; lost = b .lost }) = cc in f
-say-once anAdvance a b e = let f : _≡_ {A = Advanced} (record { no = a .no; fired = a .fired }) (record { no = b .no; fired = b .fired }) = cc in f
-say-once aReport a b e = let f : _≡_ {A = Report} (record { no = a .no; free = a .free }) (record { no = b .no; free = b .free }) = cc in f
+say-once aPlace a b e = let f : _≡_ {A = Ans aPlace} (record { no = a .no; offset = a .offset; length = a .length }) (record { no = b .no; offset = b .offset; length = b .length }) = cc in f
+say-once anEnd a b e = let f : _≡_ {A = Ans anEnd} (record { no = a .no; sent = a .sent; lost = a .lost }) (record { no = b .no; sent = b .sent; lost = b .lost }) = cc in f
+say-once anAdvance a b e = let f : _≡_ {A = Ans anAdvance} (record { no = a .no; fired = a .fired }) (record { no = b .no; fired = b .fired }) = cc in f
+say-once aReport a b e = let f : _≡_ {A = Ans aReport} (record { no = a .no; free = a .free }) (record { no = b .no; free = b .free }) = cc in f
 
 -- so no second struct meets it
 pub struct-once : (o : Op) (w p : List ℕ) (a b : Ans (entry o .shape)) {w′ w₂ p′ p₂ : List ℕ} →

@@ -1,6 +1,9 @@
 // The host calls. Each tests the buffers, refuses unsound ones with 7, and else does what its rule says. None asks anything of its caller.
-ghost use Rattle.rules.specs.Calls.{advanceEntry, afterEntry, cancelEntry, demonitorEntry, everyEntry, exitEntry, linkEntry, monitorEntry, nextEntry, notifyEntry, receiveEntry, reportEntry, shownEntry, spawnEntry, unlinkEntry, yieldEntry};
-ghost use Rattle.rules.specs.Host.{Follows};
+ghost use Rattle.ledger.specs.Call.Answer.{plain};
+ghost use Rattle.ledger.specs.Call.Call.{op};
+ghost use Rattle.ledger.specs.Call.Op.{advance, after, cancel, demonitor, every, exit, link, monitor, next, notify, receive, report, shown, spawn, unlink, yield};
+ghost use Rattle.rules.specs.Run.{sayAdvanced, sayEnded, sayMade, sayReceived, sayReport, sayShown, sayTurn};
+ghost use Rattle.rules.specs.Story.{Meets};
 use calls::messages::notify_in;
 use calls::messages::shown_in;
 use calls::receiving::receive_in;
@@ -30,7 +33,7 @@ use tables::layout::caps_of;
 // A new actor at a priority from 0 (first) to 3: 0 and its id. 1: no such priority; 2: no slot.
 #[no_mangle]
 pub extern "C" fn fg_spawn(t: &mut [u64], p: &mut [u8], priority: u64) -> Made
-    ensures { λ r. ⌜ Follows (spawnEntry priority) (now (t .entry)) (now (p .entry)) r (now (t .exit)) (now (p .exit)) ⌝ }
+    ensures { λ r. ⌜ Meets (op (spawn priority)) (now (t .entry)) (now (p .entry)) (sayMade r) (now (t .exit)) (now (p .exit)) ⌝ }
 {
     if sound(t, p) {
         return spawn_in(t, p, caps_of(t), priority);
@@ -41,7 +44,7 @@ pub extern "C" fn fg_spawn(t: &mut [u64], p: &mut [u8], priority: u64) -> Made
 // The actor whose turn it is now runs: 0, its id and why it was runnable. 4: one runs already; 6: none is runnable, with the time to sleep.
 #[no_mangle]
 pub extern "C" fn fg_next(t: &mut [u64], p: &mut [u8]) -> Turn
-    ensures { λ r. ⌜ Follows nextEntry (now (t .entry)) (now (p .entry)) r (now (t .exit)) (now (p .exit)) ⌝ }
+    ensures { λ r. ⌜ Meets (op next) (now (t .entry)) (now (p .entry)) (sayTurn r) (now (t .exit)) (now (p .exit)) ⌝ }
 {
     if sound(t, p) {
         return next_in(t, p, caps_of(t));
@@ -57,7 +60,7 @@ pub extern "C" fn fg_next(t: &mut [u64], p: &mut [u8]) -> Turn
 // The running actor goes to the tail of its level. 4: nobody runs.
 #[no_mangle]
 pub extern "C" fn fg_yield(t: &mut [u64], p: &mut [u8]) -> u64
-    ensures { λ r. ⌜ Follows yieldEntry (now (t .entry)) (now (p .entry)) r (now (t .exit)) (now (p .exit)) ⌝ }
+    ensures { λ r. ⌜ Meets (op yield) (now (t .entry)) (now (p .entry)) (plain r) (now (t .exit)) (now (p .exit)) ⌝ }
 {
     if sound(t, p) {
         return yield_in(t, p, caps_of(t));
@@ -74,7 +77,7 @@ pub extern "C" fn fg_notify(
     tag: u64,
     payload: &[u8],
 ) -> u64
-    ensures { λ r. ⌜ Follows (notifyEntry target tag (now (payload .entry))) (now (t .entry)) (now (p .entry)) r (now (t .exit)) (now (p .exit)) ⌝ }
+    ensures { λ r. ⌜ Meets (op (notify target tag (now (payload .entry)))) (now (t .entry)) (now (p .entry)) (plain r) (now (t .exit)) (now (p .exit)) ⌝ }
 {
     if sound(t, p) {
         return notify_in(t, p, caps_of(t), target, tag, payload);
@@ -92,7 +95,7 @@ pub extern "C" fn fg_receive(
     tag: u64,
     wait: i64,
 ) -> Received
-    ensures { λ r. ⌜ Follows (receiveEntry sender class tag wait) (now (t .entry)) (now (p .entry)) r (now (t .exit)) (now (p .exit)) ⌝ }
+    ensures { λ r. ⌜ Meets (op (receive sender class tag wait)) (now (t .entry)) (now (p .entry)) (sayReceived r) (now (t .exit)) (now (p .exit)) ⌝ }
 {
     if sound(t, p) {
         return receive_in(t, p, caps_of(t), sender, class, tag, wait);
@@ -109,7 +112,7 @@ pub extern "C" fn fg_receive(
 // Where the payload in hand lies in the payload area. 4: nobody runs; 3: nothing in hand.
 #[no_mangle]
 pub extern "C" fn fg_shown(t: &mut [u64], p: &mut [u8]) -> Shown
-    ensures { λ r. ⌜ Follows shownEntry (now (t .entry)) (now (p .entry)) r (now (t .exit)) (now (p .exit)) ⌝ }
+    ensures { λ r. ⌜ Meets (op shown) (now (t .entry)) (now (p .entry)) (sayShown r) (now (t .exit)) (now (p .exit)) ⌝ }
 {
     if sound(t, p) {
         return shown_in(t, p, caps_of(t));
@@ -124,7 +127,7 @@ pub extern "C" fn fg_shown(t: &mut [u64], p: &mut [u8]) -> Shown
 // A one-shot timer: 0 and its id. 4: nobody runs; 1: such a delay is malformed; 2: no room.
 #[no_mangle]
 pub extern "C" fn fg_after(t: &mut [u64], p: &mut [u8], delay: u64) -> Made
-    ensures { λ r. ⌜ Follows (afterEntry delay) (now (t .entry)) (now (p .entry)) r (now (t .exit)) (now (p .exit)) ⌝ }
+    ensures { λ r. ⌜ Meets (op (after delay)) (now (t .entry)) (now (p .entry)) (sayMade r) (now (t .exit)) (now (p .exit)) ⌝ }
 {
     if sound(t, p) {
         return after_in(t, p, caps_of(t), delay);
@@ -135,7 +138,7 @@ pub extern "C" fn fg_after(t: &mut [u64], p: &mut [u8], delay: u64) -> Made
 // A periodic timer: 0 and its id. 4: nobody runs; 1: such an interval is malformed; 2: no room.
 #[no_mangle]
 pub extern "C" fn fg_every(t: &mut [u64], p: &mut [u8], interval: u64) -> Made
-    ensures { λ r. ⌜ Follows (everyEntry interval) (now (t .entry)) (now (p .entry)) r (now (t .exit)) (now (p .exit)) ⌝ }
+    ensures { λ r. ⌜ Meets (op (every interval)) (now (t .entry)) (now (p .entry)) (sayMade r) (now (t .exit)) (now (p .exit)) ⌝ }
 {
     if sound(t, p) {
         return every_in(t, p, caps_of(t), interval);
@@ -146,7 +149,7 @@ pub extern "C" fn fg_every(t: &mut [u64], p: &mut [u8], interval: u64) -> Made
 // A timer of the caller ends. 4: nobody runs; 3: no such timer of the caller.
 #[no_mangle]
 pub extern "C" fn fg_cancel(t: &mut [u64], p: &mut [u8], id: u64) -> u64
-    ensures { λ r. ⌜ Follows (cancelEntry id) (now (t .entry)) (now (p .entry)) r (now (t .exit)) (now (p .exit)) ⌝ }
+    ensures { λ r. ⌜ Meets (op (cancel id)) (now (t .entry)) (now (p .entry)) (plain r) (now (t .exit)) (now (p .exit)) ⌝ }
 {
     if sound(t, p) {
         return cancel_in(t, p, caps_of(t), id);
@@ -157,7 +160,7 @@ pub extern "C" fn fg_cancel(t: &mut [u64], p: &mut [u8], id: u64) -> u64
 // A link with an actor; one that is there already stays. 4: nobody runs; 1: oneself; 3: no such actor; 2: no room.
 #[no_mangle]
 pub extern "C" fn fg_link(t: &mut [u64], p: &mut [u8], partner: u64) -> u64
-    ensures { λ r. ⌜ Follows (linkEntry partner) (now (t .entry)) (now (p .entry)) r (now (t .exit)) (now (p .exit)) ⌝ }
+    ensures { λ r. ⌜ Meets (op (link partner)) (now (t .entry)) (now (p .entry)) (plain r) (now (t .exit)) (now (p .exit)) ⌝ }
 {
     if sound(t, p) {
         return link_in(t, p, caps_of(t), partner);
@@ -168,7 +171,7 @@ pub extern "C" fn fg_link(t: &mut [u64], p: &mut [u8], partner: u64) -> u64
 // A link is taken back. 4: nobody runs; 3: there is none.
 #[no_mangle]
 pub extern "C" fn fg_unlink(t: &mut [u64], p: &mut [u8], partner: u64) -> u64
-    ensures { λ r. ⌜ Follows (unlinkEntry partner) (now (t .entry)) (now (p .entry)) r (now (t .exit)) (now (p .exit)) ⌝ }
+    ensures { λ r. ⌜ Meets (op (unlink partner)) (now (t .entry)) (now (p .entry)) (plain r) (now (t .exit)) (now (p .exit)) ⌝ }
 {
     if sound(t, p) {
         return unlink_in(t, p, caps_of(t), partner);
@@ -179,7 +182,7 @@ pub extern "C" fn fg_unlink(t: &mut [u64], p: &mut [u8], partner: u64) -> u64
 // The caller watches an actor: 0 and the id of the monitor. 4: nobody runs; 1: oneself; 3: no such actor; 2: no room.
 #[no_mangle]
 pub extern "C" fn fg_monitor(t: &mut [u64], p: &mut [u8], target: u64) -> Made
-    ensures { λ r. ⌜ Follows (monitorEntry target) (now (t .entry)) (now (p .entry)) r (now (t .exit)) (now (p .exit)) ⌝ }
+    ensures { λ r. ⌜ Meets (op (monitor target)) (now (t .entry)) (now (p .entry)) (sayMade r) (now (t .exit)) (now (p .exit)) ⌝ }
 {
     if sound(t, p) {
         return monitor_in(t, p, caps_of(t), target);
@@ -190,7 +193,7 @@ pub extern "C" fn fg_monitor(t: &mut [u64], p: &mut [u8], target: u64) -> Made
 // A monitor of the caller is taken back. 4: nobody runs; 3: no such monitor of the caller.
 #[no_mangle]
 pub extern "C" fn fg_demonitor(t: &mut [u64], p: &mut [u8], id: u64) -> u64
-    ensures { λ r. ⌜ Follows (demonitorEntry id) (now (t .entry)) (now (p .entry)) r (now (t .exit)) (now (p .exit)) ⌝ }
+    ensures { λ r. ⌜ Meets (op (demonitor id)) (now (t .entry)) (now (p .entry)) (plain r) (now (t .exit)) (now (p .exit)) ⌝ }
 {
     if sound(t, p) {
         return demonitor_in(t, p, caps_of(t), id);
@@ -201,7 +204,7 @@ pub extern "C" fn fg_demonitor(t: &mut [u64], p: &mut [u8], id: u64) -> u64
 // The running actor ends: 0, and how many notices were sent and lost. 4: nobody runs; 1: such a reason is malformed.
 #[no_mangle]
 pub extern "C" fn fg_exit(t: &mut [u64], p: &mut [u8], reason: u64) -> Ended
-    ensures { λ r. ⌜ Follows (exitEntry reason) (now (t .entry)) (now (p .entry)) r (now (t .exit)) (now (p .exit)) ⌝ }
+    ensures { λ r. ⌜ Meets (op (exit reason)) (now (t .entry)) (now (p .entry)) (sayEnded r) (now (t .exit)) (now (p .exit)) ⌝ }
 {
     if sound(t, p) {
         return exit_in(t, p, caps_of(t), reason);
@@ -216,7 +219,7 @@ pub extern "C" fn fg_exit(t: &mut [u64], p: &mut [u8], reason: u64) -> Ended
 // The clock goes on by some microseconds: 0, and how many timers fired. 1: malformed.
 #[no_mangle]
 pub extern "C" fn fg_advance(t: &mut [u64], p: &mut [u8], micros: u64) -> Advanced
-    ensures { λ r. ⌜ Follows (advanceEntry micros) (now (t .entry)) (now (p .entry)) r (now (t .exit)) (now (p .exit)) ⌝ }
+    ensures { λ r. ⌜ Meets (op (advance micros)) (now (t .entry)) (now (p .entry)) (sayAdvanced r) (now (t .exit)) (now (p .exit)) ⌝ }
 {
     if sound(t, p) {
         return advance_in(t, p, caps_of(t), micros);
@@ -227,7 +230,7 @@ pub extern "C" fn fg_advance(t: &mut [u64], p: &mut [u8], micros: u64) -> Advanc
 // The free entries of the six pools.
 #[no_mangle]
 pub extern "C" fn fg_report(t: &mut [u64], p: &mut [u8]) -> Report
-    ensures { λ r. ⌜ Follows reportEntry (now (t .entry)) (now (p .entry)) r (now (t .exit)) (now (p .exit)) ⌝ }
+    ensures { λ r. ⌜ Meets (op report) (now (t .entry)) (now (p .entry)) (sayReport r) (now (t .exit)) (now (p .exit)) ⌝ }
 {
     if sound(t, p) {
         return report_in(t, p, caps_of(t));

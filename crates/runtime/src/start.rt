@@ -3,10 +3,13 @@ ghost use mathlib.Core.Path.{_≡_};
 ghost use Prim.Native.Nat.{_≤_, _<_};
 ghost use lib.ListN.{length, replicate};
 ghost use lib.Seq.{sets};
+ghost use Rattle.ledger.specs.Call.Answer.{plain};
+ghost use Rattle.ledger.specs.Call.Call.{start};
 ghost use Rattle.tables.specs.Columns.{REST};
 ghost use Rattle.tables.specs.Sizes.{BIT-WORDS};
 ghost use Rattle.tables.specs.State.{view, Room, Left};
-ghost use Rattle.rules.specs.Host.{Started, ones, zeroed, stated, freed, fresh};
+ghost use Rattle.rules.specs.Host.{ones, zeroed, stated, freed, fresh};
+ghost use Rattle.rules.specs.Story.{Meets};
 use pools::bits::WORD_BITS;
 use sound::fits;
 use tables::Caps;
@@ -107,7 +110,7 @@ pub extern "C" fn fg_start(
     monitors: u64,
     timers: u64,
 ) -> u64
-    ensures { λ r. ⌜ Started (record { actors = actors; mails = mailboxes; datas = «data_entries»; links = links; monitors = monitors; timers = timers }) (now (t .entry)) (now (p .entry)) r (now (t .exit)) (now (p .exit)) ⌝ }
+    ensures { λ r. ⌜ Meets (start (record { actors = actors; mails = mailboxes; datas = «data_entries»; links = links; monitors = monitors; timers = timers })) (now (t .entry)) (now (p .entry)) (plain r) (now (t .exit)) (now (p .exit)) ⌝ }
 {
     let k = Caps {
         actors: actors as usize,

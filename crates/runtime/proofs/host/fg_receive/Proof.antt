@@ -2,7 +2,8 @@
 use mir.Syntax.{w64}
 use mir.ValLaws.{toZ-ofZ}
 use borrow.Author.Needs.{needs}
-use Rattle.rules.proofs.HostLaws.{called-no, called-ready, called-yes}
+use Rattle.ledger.specs.Call.Op.{receive}
+use Rattle.rules.proofs.HostLaws.{called-ready, meets-no, meets-yes}
 use Rattle.runtime.proofs.host.fg_receive.Statement.{statement}
 use Rattle.runtime.proofs.host.fg_receive.Tie as tie
 
@@ -12,11 +13,13 @@ asks c κs = called-ready _ _ (c .before .before .before .before .before .sound 
 yes : tie.Need-returns
 yes c =
     let s = c .before .before .before .before .before .before .before .before .before .before .before .before .before .before .before in
-    let r = rw (toZ-ofZ w64 (s .args .wait) (s .fits .wait)) at (c .before .before .before .before .receive-in .ensures) in
-    called-yes _ _ _ _ (c .before .before .before .before .before .before .before .before .before .before .sound .ensures) (c .before .before .before .before .before .before .before .before .before .if1 .taken) (c .before .before .before .before .before .caps-of .ensures) (r .0) (r .1)
+    let a = s .args in
+    meets-yes (receive (a .sender) (a .class) (a .tag) (a .wait)) _ _ (c .before .before .before .before .before .before .before .before .before .before .sound .ensures) (c .before .before .before .before .before .before .before .before .before .if1 .taken) (c .before .before .before .before .before .caps-of .ensures) (rw (toZ-ofZ w64 (s .args .wait) (s .fits .wait)) at (c .before .before .before .before .receive-in .ensures))
 
 refuses : tie.Need-returns-2
-refuses c = called-no _ _ _ _ (c .before .sound .ensures) (c .if1 .left)
+refuses c =
+    let a = c .before .before .before .before .before .before .args in
+    meets-no (receive (a .sender) (a .class) (a .tag) (a .wait)) _ _ (c .before .sound .ensures) (c .if1 .left)
 
 pub fg-receive-spec : {M : Type 1} → statement M
 fg-receive-spec =
