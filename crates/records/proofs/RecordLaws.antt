@@ -10,7 +10,9 @@ use lib.Dec.{eqb, ltb}
 use lib.ListN.{length, take, drop}
 use lib.Seq.{sets, take-at}
 use Rattle.records.specs.Bytes.{le, field, Bytes}
+use Rattle.records.specs.Reason.{Worded}
 use Rattle.records.specs.Records.{tickBytes, exitBytes, Wrote, isRecord, readTick, readExit}
+use Rattle.records.specs.declared.reason.Text.{Text}
 use Rattle.records.specs.declared.tick.TickRead.{TickRead}
 use Rattle.records.specs.declared.exit.ExitRead.{ExitRead}
 use Rattle.records.proofs.ByteLaws.{ofLe-le, laid-out, stored-front}
@@ -128,6 +130,10 @@ exit-written actor reason monitor s after a r m w =
 pub wrote-once : (bytes s : List ℕ) {r q : ℕ} {t u : List ℕ} → Wrote bytes s r t → Wrote bytes s q u → (r ≡ q) × (t ≡ u)
 wrote-once bytes s w v = (w .0 ∙ sym (v .0), w .1 ∙ sym (v .1))
 
--- no second answer keeps the promise of `fg_read_tick`, of `fg_read_exit` or of `fg_reason_word`, each an equation
+-- no second answer keeps the promise of `fg_read_tick`, nor that of `fg_read_exit`, each an equation
 pub read-once : {A : Type 0} {promised r q : A} → r ≡ promised → q ≡ promised → r ≡ q
 read-once e f = e ∙ sym f
+
+-- no second text keeps the promise of `fg_reason_word`
+pub word-once : (reason : ℕ) {r q : Text} → Worded reason r → Worded reason q → r ≡ q
+word-once reason e f = read-once e f

@@ -4,6 +4,7 @@ use Prim.Native.Char.{code}
 use Prim.Native.String as Str
 use Prim.Native.String.{String}
 use mathlib.Core.Bool.{cond}
+use mathlib.Core.Path.{_≡_}
 use mathlib.Core.List.{List, [], _∷_, _++_}
 use lib.ListN.{length, replicate}
 use lib.Dec.{leb, eqb}
@@ -41,3 +42,7 @@ letters w = codes (spelling w)
 -- a word as it is handed to C: eight bytes, zeros past its letters, and how many letters there are
 abbrev pub textOf : Word → Text
 textOf w = record { bytes = letters w ++ replicate (8 - length (letters w)) 0; len = length (letters w) }
+
+-- what `fg_reason_word` promises: its answer is the text of the reason's word
+abbrev pub Worded : ℕ → Text → Type 0
+Worded reason r = r ≡ textOf (wordOf reason)

@@ -73,7 +73,7 @@ pub meets-once : (c : Call) (w p : List ℕ) {r r₂ : Answer} {w′ w₂ p′ p
 meets-once (start z) w p = λ c d. (c .ans ∙ sym (d .ans), c .words ∙ sym (d .words), c .bytes ∙ sym (d .bytes))
 meets-once (op o) w p = λ c d. (c .ans ∙ sym (d .ans), c .words ∙ sym (d .words), c .bytes ∙ sym (d .bytes))
 
--- and of the struct that C gets nothing is lost where the reckoning has it as an answer
+-- as the reckoning has it, an answer has lost nothing of the struct that C gets
 pub say-once : (h : Shape) (a b : Ans h) → say h a ≡ say h b → a ≡ b
 say-once aNumber a b e = cc
 say-once anId a b e = let f : _≡_ {A = Ans anId} (record { no = a .no; id = a .id }) (record { no = b .no; id = b .id }) = cc in f
@@ -85,7 +85,7 @@ say-once anEnd a b e = let f : _≡_ {A = Ans anEnd} (record { no = a .no; sent 
 say-once anAdvance a b e = let f : _≡_ {A = Ans anAdvance} (record { no = a .no; fired = a .fired }) (record { no = b .no; fired = b .fired }) = cc in f
 say-once aReport a b e = let f : _≡_ {A = Ans aReport} (record { no = a .no; free = a .free }) (record { no = b .no; free = b .free }) = cc in f
 
--- so no second struct meets it
+-- so C gets no second struct
 pub struct-once : (o : Op) (w p : List ℕ) (a b : Ans (entry o .shape)) {w′ w₂ p′ p₂ : List ℕ} →
     Meets (op o) w p (say (entry o .shape) a) w′ p′ → Meets (op o) w p (say (entry o .shape) b) w₂ p₂ → a ≡ b
 struct-once o w p a b c d = say-once (entry o .shape) a b (meets-once (op o) w p c d .0)
