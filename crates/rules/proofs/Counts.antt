@@ -1,18 +1,18 @@
 -- The counts of an answer and the messages that arrive: as many ticks as timers fired, as many notices as were sent, and no timer fires twice. Assumes nothing.
 use Prim.Native.Nat.{ℕ, _+_, _≤_}
 use native.Mathlib.Omega.{arith}
-use mathlib.Core.Path.{_≡_, refl, ap, ap₂, _∙_}
+use mathlib.Core.Path.{_≡_, _∙_}
 use mathlib.Core.Bool.{not}
 use mathlib.Core.List.{[], _∷_, _++_, map}
-use lib.ListN.{length, length-map, take}
+use lib.ListN.{length, length-map}
 use lib.Seq.{length-take-le}
 use lib.Dec.{eqb}
-use Rattle.ledger.specs.Call.{Op, counted, number}
+use Rattle.ledger.specs.Call.{counted, number}
 use Rattle.ledger.specs.Call.Call.{op}
 use Rattle.ledger.specs.Call.Op.{advance, exit}
 use Rattle.ledger.specs.Ledger.{Ledger}
 use Rattle.ledger.specs.Lists.{those}
-use Rattle.ledger.specs.Reckon.{cleared, departed, dueNow, endLinks, endMonitors, endTimers, entered, fired, firings, gone, later, losses, notices, page, sendings, tick, ticks}
+use Rattle.ledger.specs.Reckon.{cleared, departed, dueNow, endLinks, endMonitors, endTimers, entered, fired, firings, gone, later, losses, notices, page, sendings, tick}
 use Rattle.pools.specs.Pool.{occurs}
 use Rattle.tables.specs.declared.Caps.{Caps}
 use Rattle.tables.specs.State.{State}
@@ -36,16 +36,16 @@ unfolding sendings
 sendings-most me reason l = omega arith
 
 -- as many ticks are sent as timers fire
-pub ticks-sent : (micros r : ℕ) (l : Ledger) → Once l → length (page (advance micros) .sends r l) ≡ firings (later micros l)
+ticks-sent : (micros r : ℕ) (l : Ledger) → Once l → length (page (advance micros) .sends r l) ≡ firings (later micros l)
 ticks-sent micros r l once =
     length-map (fired (firings (later micros l)) (later micros l)) tick ∙ fired-all (firings (later micros l)) (later micros l) once (firings-most (later micros l))
 
 -- as many notices as the reckoning counts
-pub notices-sent : (reason r : ℕ) (l : Ledger) → length (page (exit reason) .sends r l) ≡ sendings (l .people .running) reason l
+notices-sent : (reason r : ℕ) (l : Ledger) → length (page (exit reason) .sends r l) ≡ sendings (l .people .running) reason l
 notices-sent reason r l = length-take-le (sendings (l .people .running) reason l) (notices l (l .people .running) reason) (sendings-most (l .people .running) reason l)
 
 -- every notice is sent or lost
-pub sent-or-lost : (me reason : ℕ) (l : Ledger) → sendings me reason l + losses me reason l ≡ length (notices l me reason)
+sent-or-lost : (me reason : ℕ) (l : Ledger) → sendings me reason l + losses me reason l ≡ length (notices l me reason)
 sent-or-lost me reason l = omega (arith, sendings-most me reason l)
 
 -- ---- THE THEOREMS
@@ -61,16 +61,17 @@ module _ (k : Caps) (s : State) (l : Ledger) (g : Good k s) (a : Agrees k l s) w
       let e = ticks-sent micros r l (once-there k l s (g .sized) (g .range) a) in
       (rw n (fires-boxes (firings (later micros l)) (later micros l)), step-counts (advance micros) k s l g a n ∙ rw e, e)
 
-  -- THE LAW: an exit that is not refused answers as many as notices arrive, after all that was there and was not the ended actor's, and as many lost as found no room
+  -- THE LAW: an exit that is not refused answers as many as notices arrive, after all that was there and was not the ended actor's, and as many lost as found no room: together all that there are
   pub exit-arrived : (reason r : ℕ) → number (step (exit reason) k s .ans) ≡ 0 →
       let ms = page (exit reason) .sends r l in
       (entered (record { call = op (exit reason); answer = step (exit reason) k s .ans }) l .mail .boxes ≡ those (λ m. not (eqb (m .to) (l .people .running))) (l .mail .boxes) ++ ms)
       × (counted (step (exit reason) k s .ans) ≡ length ms ∷ losses (l .people .running) reason l ∷ [])
       × (length ms ≡ sendings (l .people .running) reason l)
+      × (length ms + losses (l .people .running) reason l ≡ length (notices l (l .people .running) reason))
   unfolding entered departed gone endTimers endMonitors endLinks cleared
   exit-arrived reason r n =
       let e = notices-sent reason r l in
-      (rw n, step-counts (exit reason) k s l g a n ∙ rw e, e)
+      (rw n, step-counts (exit reason) k s l g a n ∙ rw e, e, rw e (sent-or-lost (l .people .running) reason l))
 
   -- THE LAW: no timer fires twice in one advance
   pub fires-once : (micros id : ℕ) → occurs id (map (λ t. t .id) (fired (firings (later micros l)) (later micros l))) ≤ 1

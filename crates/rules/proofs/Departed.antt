@@ -1,38 +1,32 @@
 -- In words of the reckoning: after an exit nothing of the ended actor is left. Assumes nothing.
-use Prim.Native.Nat.{ℕ, zero, suc, _+_, _-_, _%_, _≤_, min}
-use native.Mathlib.Omega.{arith}
-use native.Mathlib.Decide.{ℕ-discrete}
+use Prim.Native.Nat.{ℕ, zero, suc, _-_, _%_, _≤_}
 use mathlib.Core.Path.{_≡_, refl, sym, ap, ap₂, subst, _∙_}
-use mathlib.Core.Logic.{_⊎_, inl, inr, ⊎-elim}
 use mathlib.Core.Bool.{Bool, true, false, not, _&&_, _||_, and-false}
 use mathlib.Core.List.{List, [], _∷_, _++_, map}
-use lib.ListN.{length, take, length-append}
-use lib.Seq.{length-take-le}
+use lib.ListN.{take}
 use lib.Dec.{eqb}
-use borrow.Author.Tests.{eqb-true, eqb-false, ne-eqb, le-ltb, not-false}
+use borrow.Author.Tests.{eqb-true, ne-eqb, le-ltb}
 use Rattle.ledger.specs.Call.Call.{op}
 use Rattle.ledger.specs.Call.Op.{exit}
-use Rattle.ledger.specs.Ledger.{Ledger, Link, Message, Monitor}
+use Rattle.ledger.specs.Ledger.{Ledger}
 use Rattle.ledger.specs.Lists.{those, some, bySlot}
 use Rattle.ledger.specs.Reckon.{cleared, departed, endLinks, endMonitors, endTimers, entered, gone, linked, notice, notices}
-use Rattle.ledger.specs.Room.{datasLeft, known, mailsLeft}
+use Rattle.ledger.specs.Room.{known}
 use Rattle.pools.proofs.BoolLaws.{split, true-false}
 use Rattle.tables.specs.declared.Caps.{Caps}
 use Rattle.tables.specs.Columns.{STATE, WATCHED, WATCHER}
 use Rattle.tables.specs.Limits.{ACTOR-FACTOR, LAST-REASON, MONITOR-FACTOR}
 use Rattle.tables.specs.State.{State, at}
-use Rattle.rules.specs.Terms.{actorId, alive, runner, runnerId}
+use Rattle.rules.specs.Terms.{actorId, alive, runner}
 use Rattle.rules.specs.Agrees.{Agrees, monitorAt}
-use Rattle.rules.specs.Actions.{hasRoom}
-use Rattle.rules.specs.Calls.{Told, exitEntry, farewell, ruled}
+use Rattle.rules.specs.Calls.{exitEntry, ruled}
 use Rattle.rules.specs.Run.{sayEnded}
 use Rattle.rules.proofs.Good.{Good}
-use Rattle.rules.proofs.LedgerLaws.{running-is, runner-alive, some-map, some-no, boxes-count, datas-count, message-room}
+use Rattle.rules.proofs.LedgerLaws.{running-is, runner-alive, some-map, some-no}
 use Rattle.rules.proofs.TiesAgree.{eye-used, linked-same, up-id}
 use Rattle.rules.proofs.NoticeLaws.{those-none-left}
 use Rattle.rules.proofs.ExitLaws.{link-found}
-use Rattle.rules.proofs.Exit.{monitors-cut}
-use Rattle.rules.proofs.ExitAgrees.{Along, farewell-along, left, linkedTo}
+use Rattle.rules.proofs.ExitAgrees.{linkedTo}
 
 -- ---- none of a list
 module _ {A : Type 0} (p : A → Bool) where

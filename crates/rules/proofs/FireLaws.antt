@@ -4,7 +4,7 @@ use native.Mathlib.Omega.{arith}
 use mathlib.Core.Path.{_≡_, refl, sym, ap, ap₂, subst, _∙_}
 use mathlib.Core.Logic.{_⊎_, inl, inr, ⊎-elim}
 use mathlib.Core.Bool.{Bool, true, false, cond, not, _&&_, _||_}
-use mathlib.Core.List.{List, [], _∷_, _++_, map}
+use mathlib.Core.List.{List, [], _∷_, map}
 use lib.ListN.{length, getD, length-append}
 use lib.Dec.{eqb, leb, ltb}
 use borrow.Author.Tests.{eqb-true, eqb-false, eq-eqb, ltb-true, lt-leb, lt-ltb}
@@ -20,7 +20,7 @@ use Rattle.rules.proofs.PageLaws.{order-out}
 -- ---- those of a list, counted
 module _ {A : Type 0} where
   -- those that pass and those that do not are all
-  pub those-count : (p : A → Bool) (xs : List A) → length (those p xs) + length (those (λ x. not (p x)) xs) ≡ length xs
+  those-count : (p : A → Bool) (xs : List A) → length (those p xs) + length (those (λ x. not (p x)) xs) ≡ length xs
   unfolding those
   those-count p [] = refl
   those-count p (x ∷ xs) = split (p x) (λ q. rw q (omega (arith, those-count p xs))) (λ q. rw q (omega (arith, those-count p xs)))
@@ -35,7 +35,7 @@ module _ {A : Type 0} where
   those-most p xs = omega (arith, those-count p xs)
 
   -- a list of which there is nothing is empty
-  pub none-there : (xs : List A) → length xs ≡ 0 → xs ≡ []
+  none-there : (xs : List A) → length xs ≡ 0 → xs ≡ []
   none-there [] e = refl
   none-there (x ∷ xs) e = absurd (omega arith)
 
@@ -50,14 +50,14 @@ module _ {A : Type 0} where
   same-one x y e = ap (λ (m : List A). getD m 0 x) e
 
   -- the first that passes does pass
-  pub first-passes : (p : A → Bool) (xs : List A) (x : A) → first p xs ≡ x ∷ [] → p x ≡ true
+  first-passes : (p : A → Bool) (xs : List A) (x : A) → first p xs ≡ x ∷ [] → p x ≡ true
   unfolding first
   first-passes p [] x e = absurd (omega (arith, ap length e))
   first-passes p (y ∷ ys) x e =
       split (p y) (λ q. let z : y ≡ x = same-one y x (rw q at e) in ap p (sym z) ∙ q) (λ q. first-passes p ys x (rw q at e))
 
   -- where at most one passes another test, and the first does, it is the only one
-  pub first-alone : (p q : A → Bool) (xs : List A) (x : A) → first p xs ≡ x ∷ [] → q x ≡ true → length (those q xs) ≤ 1 → those q xs ≡ x ∷ []
+  first-alone : (p q : A → Bool) (xs : List A) (x : A) → first p xs ≡ x ∷ [] → q x ≡ true → length (those q xs) ≤ 1 → those q xs ≡ x ∷ []
   unfolding first those
   first-alone p q [] x e y h = absurd (omega (arith, ap length e))
   first-alone p q (z ∷ zs) x e y h =
@@ -81,7 +81,7 @@ abbrev pub Once : Ledger → Type 0
 Once l = (id : ℕ) → length (those (isId id) (l .time .timers)) ≤ 1
 
 -- how often an id stands in a list of timers: as often as there are timers of that id
-pub occurs-those : (id : ℕ) (ts : List Timer) → occurs id (map (λ t. t .id) ts) ≡ length (those (isId id) ts)
+occurs-those : (id : ℕ) (ts : List Timer) → occurs id (map (λ t. t .id) ts) ≡ length (those (isId id) ts)
 unfolding occurs those
 occurs-those id [] = refl
 occurs-those id (t ∷ ts) = split (eqb (t .id) id) (λ q. rw q (omega (arith, occurs-those id ts))) (λ q. rw q (omega (arith, occurs-those id ts)))
@@ -151,7 +151,7 @@ message-less mails datas boxes hands h =
 -- ---- one timer fires, the soonest
 module _ (l : Ledger) (once : Once l) (t : Timer) (is : soonest (l .time .clock) (l .time .timers) ≡ t ∷ []) where
   -- it is due
-  pub soonest-due : leb (t .due) (l .time .clock) ≡ true
+  soonest-due : leb (t .due) (l .time .clock) ≡ true
   unfolding soonest
   soonest-due =
       let ts = l .time .timers in
@@ -173,7 +173,7 @@ module _ (l : Ledger) (once : Once l) (t : Timer) (is : soonest (l .time .clock)
   due-alone = order-out (isId (t .id)) (λ u. leb (u .due) (l .time .clock)) (l .time .timers) ∙ rw (alone, soonest-due)
 
   -- THE LAW: once it has fired, just it is not due any more
-  pub due-fired : dueNow (firing (t ∷ []) l) ≡ those (λ u. not (eqb (u .id) (t .id))) (dueNow l)
+  due-fired : dueNow (firing (t ∷ []) l) ≡ those (λ u. not (eqb (u .id) (t .id))) (dueNow l)
   unfolding firing rearmed endTimers some
   due-fired =
       split (eqb (t .interval) 0)
@@ -185,7 +185,7 @@ module _ (l : Ledger) (once : Once l) (t : Timer) (is : soonest (l .time .clock)
   due-less = rw due-fired (omega (arith, those-count (isId (t .id)) (dueNow l), ap length due-alone))
 
   -- room for one message less
-  pub room-less : (messagesLeft l ≡ 0 → ⊥) → messagesLeft l ≡ suc (messagesLeft (firing (t ∷ []) l))
+  room-less : (messagesLeft l ≡ 0 → ⊥) → messagesLeft l ≡ suc (messagesLeft (firing (t ∷ []) l))
   unfolding firing rearmed endTimers
   room-less h =
       let n = length-append (l .mail .boxes) (tick t ∷ []) in
@@ -198,7 +198,7 @@ module _ (l : Ledger) (once : Once l) (t : Timer) (is : soonest (l .time .clock)
   firings-less h = ap₂ (λ (x y : ℕ). min x y) due-less (room-less h) ∙ lesser (length (dueNow (firing (t ∷ []) l))) (messagesLeft (firing (t ∷ []) l))
 
   -- no two timers have one id still
-  pub once-fired : Once (firing (t ∷ []) l)
+  once-fired : Once (firing (t ∷ []) l)
   unfolding firing rearmed endTimers
   once-fired id =
       split (eqb (t .interval) 0)
