@@ -1,32 +1,66 @@
--- THE THEOREMS, on one page. Somebody lends two buffers, whatever they hold, and starts a runtime in them; the start answers 0. Then come any calls, with any numbers, each with its
--- answer. All that is known of a call is its promise, `Meets`: the contract of its function in runtime/src. Nobody else writes the buffers. Nothing else is assumed.
-use Prim.Native.Nat.{ℕ}
+-- THE THEOREMS, on one page. Somebody lends two buffers, whatever they hold. All that is known of a call on them is its promise, `Meets`, which is the contract of its function in
+-- runtime/src; nobody else writes the buffers. Nothing else is assumed.
+use Prim.Native.Nat.{ℕ, _≤_}
 use mathlib.Core.Path.{_≡_}
 use mathlib.Core.Logic.{_↔_}
 use mathlib.Core.Bool.{true, false}
-use mathlib.Core.List.{List}
-use Rattle.ledger.specs.Call.{Answer, Call, Line, Op, Sizes, Why, code, number, numbered}
-use Rattle.ledger.specs.Call.Answer.{ended, part, plain}
+use mathlib.Core.List.{List, map}
+use lib.IntN.{ℤ}
+use Rattle.ledger.specs.Call.{Answer, Call, Line, Op, Sizes, Why, code, counted, number, numbered, refuses, zeroed}
+use Rattle.ledger.specs.Call.Answer.{ended, part, plain, turn}
 use Rattle.ledger.specs.Call.Call.{start, op}
-use Rattle.ledger.specs.Call.Op.{exit, show}
+use Rattle.ledger.specs.Call.Op.{exit, next, receive, show}
+use Rattle.ledger.specs.Ended.{Unaimed}
 use Rattle.ledger.specs.Ledger.{Ledger, nothing}
-use Rattle.ledger.specs.Reckon.{entered, reckon, short, verdict}
+use Rattle.ledger.specs.Reckon.{entered, fired, firings, later, leaf, reckon, short, verdict}
 use Rattle.ledger.specs.Room.{inHand, known}
+use Rattle.pools.specs.Pool.{occurs}
+use Rattle.tables.specs.State.{PastSame, capsOf}
+use Rattle.rules.specs.Rule.{Holds}
 use Rattle.rules.specs.Terms.{isActor}
-use Rattle.rules.specs.Sound.{viewOf}
+use Rattle.rules.specs.Sound.{soundRule, viewOf}
 use Rattle.rules.specs.Agrees.{shows}
-use Rattle.rules.specs.Story.{Aims, Kept, Meets, Story, line, startless}
+use Rattle.rules.specs.Calls.{Sleeps}
+use Rattle.rules.specs.Run.{seven}
+use Rattle.rules.specs.Story.{Aims, Kept, Meets, Story, capsFor, line, startless}
+use Rattle.rules.proofs.Counts as Counts
+use Rattle.rules.proofs.HostLaws.{meets-broken, meets-once}
+use Rattle.rules.proofs.Keep.{good-view}
+use Rattle.rules.proofs.Past.{line-past}
+use Rattle.rules.proofs.Sleep.{line-sleep}
 use Rattle.rules.proofs.Story.{begun-kept, story-kept}
-use Rattle.rules.proofs.StoryAnswers.{line-refusal, line-seven, line-shown, line-two}
-use Rattle.rules.proofs.StoryEnds.{Unaimed, ended-stays-ended, strange-line}
+use Rattle.rules.proofs.StoryAnswers.{line-counts, line-refusal, line-refused, line-seven, line-shown, line-two, line-unmet}
+use Rattle.rules.proofs.StoryEnds.{ended-stays-ended, strange-line}
 
--- a start that answered 0, and any story after it
+-- ---- DEMAND 1, of every call on any two buffers
+module _ (c : Call) (w p : List ℕ) (r : Answer) (w′ p′ : List ℕ) (meets : Meets c w p r w′ p′) where
+  -- a refusal, 1, 2, 3, 4 or 7, changes not one word or byte, and zeros stand beside the number
+  pub refused : refuses (number r) ≡ true → (w′ ≡ w) × (p′ ≡ p) × (r ≡ zeroed r)
+  refused = line-refused c w p r w′ p′ meets
+
+  -- what is past the needed words and bytes stays, and both buffers are as long as they were
+  pub past : PastSame (capsFor c w) w p w′ p′
+  past = line-past c w p r w′ p′ meets
+
+  -- DEMAND 2: no other answer and no other buffers meet the promise
+  pub only-one : (r₂ : Answer) (w₂ p₂ : List ℕ) → Meets c w p r₂ w₂ p₂ → (r ≡ r₂) × (w′ ≡ w₂) × (p′ ≡ p₂)
+  only-one r₂ w₂ p₂ = meets-once c w p meets
+
+-- buffers that hold no sound runtime: every call but start answers 7, zeros beside it, and changes nothing
+pub unsound : (o : Op) (w p : List ℕ) (r : Answer) (w′ p′ : List ℕ) → Meets (op o) w p r w′ p′ → (Holds (soundRule w p) → ⊥) → (r ≡ seven o) × (w′ ≡ w) × (p′ ≡ p)
+unsound o w p r w′ p′ m n = meets-broken o w p n m
+
+-- "every other number answered is 0": beside receive's 5 and 6 too
+pub unmet : (sender class tag : ℕ) (wait : ℤ) (w p : List ℕ) (r : Answer) (w′ p′ : List ℕ) → Meets (op (receive sender class tag wait)) w p r w′ p′ → (number r ≡ 0 → ⊥) → r ≡ zeroed r
+unmet = line-unmet
+
+-- ---- DEMAND 3: a start that answered 0, and any story after it
 module _ (z : Sizes) {w p w₁ p₁ w₂ p₂ : List ℕ} {xs : List Line} (began : Meets (start z) w p (plain 0) w₁ p₁) (story : Story w₁ p₁ xs w₂ p₂) where
   -- who and what is there, by the calls and answers alone
   abbrev there : Ledger
   there = reckon (nothing z) xs
 
-  -- DEMAND 3: the buffers are sound, and hold exactly that
+  -- the buffers are sound, and hold exactly that
   pub demand-three : Kept there w₂ p₂
   demand-three = story-kept (nothing z) story (begun-kept z w p w₁ p₁ began)
 
@@ -40,13 +74,25 @@ module _ (z : Sizes) {w p w₁ p₁ w₂ p₂ : List ℕ} {xs : List Line} (bega
     pub no-room : (number r ≡ 2) ↔ (short there c ≡ true)
     no-room = line-two c there w₂ p₂ r w₃ p₃ meets demand-three
 
-  -- and so every refusal of every call but start: exactly when it is the first that applies, by what is there
-  pub refusal-due : (o : Op) (r : Answer) {w₃ p₃ : List ℕ} → Meets (op o) w₂ p₂ r w₃ p₃ → numbered r ≡ true → (y : Why) → (number r ≡ code y) ↔ (verdict there (op o) ≡ code y)
-  refusal-due o r {w₃} {p₃} m n y = line-refusal o y there w₂ p₂ r w₃ p₃ m demand-three n
+    -- the counts beside a 0, notices sent and lost, timers fired, free entries, are what the reckoning works out
+    pub counts-right : number r ≡ 0 → counted r ≡ leaf c .counts there
+    counts-right = line-counts c there w₂ p₂ r w₃ p₃ meets demand-three
+
+  -- every refusal of every call but start, exactly when it is the first that applies, by what is there
+  pub refusal-due : (o : Op) (r : Answer) (w₃ p₃ : List ℕ) → Meets (op o) w₂ p₂ r w₃ p₃ → numbered r ≡ true → (y : Why) → (number r ≡ code y) ↔ (verdict there (op o) ≡ code y)
+  refusal-due o r w₃ p₃ m n y = line-refusal o y there w₂ p₂ r w₃ p₃ m demand-three n
 
   -- what is shown are the bytes of the message in the caller's hand: none where nobody runs or nothing is in hand
-  pub shown-exactly : (r : Answer) {w₃ p₃ : List ℕ} → Meets (op show) w₂ p₂ r w₃ p₃ → r ≡ part (shows (inHand there))
-  shown-exactly r {w₃} {p₃} m = line-shown there w₂ p₂ r w₃ p₃ m demand-three
+  pub shown-exactly : (r : Answer) (w₃ p₃ : List ℕ) → Meets (op show) w₂ p₂ r w₃ p₃ → r ≡ part (shows (inHand there))
+  shown-exactly r w₃ p₃ m = line-shown there w₂ p₂ r w₃ p₃ m demand-three
+
+  -- the time to sleep: until then nothing is to be done, and then something is; -1 where nothing ever is
+  pub sleeps-right : (t : ℤ) (w₃ p₃ : List ℕ) → Meets (op next) w₂ p₂ (turn 6 0 0 t) w₃ p₃ → Sleeps (capsOf w₂) (viewOf w₂ p₂) t
+  sleeps-right t w₃ p₃ m = line-sleep t w₂ p₂ w₃ p₃ m (demand-three .sound)
+
+  -- no timer fires twice in one advance
+  pub fires-once : (micros id : ℕ) → occurs id (map (λ t. t .id) (fired (firings (later micros there)) (later micros there))) ≤ 1
+  fires-once micros id = Counts.fires-once (capsOf w₂) (viewOf w₂ p₂) there (good-view w₂ p₂ (demand-three .sound)) (demand-three .agrees) micros id
 
   -- after an exit, until a new start: the actor that ended is nobody, owns nothing, and nothing is aimed at it
   pub after-exit : (reason sent lost : ℕ) {w₃ p₃ w₄ p₄ : List ℕ} {ys : List Line} → Meets (op (exit reason)) w₂ p₂ (ended 0 sent lost) w₃ p₃ → Story w₃ p₃ ys w₄ p₄ → startless ys ≡ true →
@@ -54,5 +100,5 @@ module _ (z : Sizes) {w p w₁ p₁ w₂ p₂ : List ℕ} {xs : List Line} (bega
   after-exit reason sent lost m s n = ended-stays-ended reason sent lost there m demand-three s n
 
   -- a call that is aimed at such an id, or at any that is not a live actor's, changes nothing and does not answer 0: it never reaches the next one in the slot
-  pub never-reaches : {o : Op} (r : Answer) {w₃ p₃ : List ℕ} (id : ℕ) → Aims id o → known there id ≡ false → Meets (op o) w₂ p₂ r w₃ p₃ → (w₃ ≡ w₂) × (p₃ ≡ p₂) × (number r ≡ 0 → ⊥)
-  never-reaches r {w₃} {p₃} id a n m = strange-line there w₂ p₂ r w₃ p₃ id a m demand-three n
+  pub never-reaches : {o : Op} (r : Answer) (w₃ p₃ : List ℕ) (id : ℕ) → Aims id o → known there id ≡ false → Meets (op o) w₂ p₂ r w₃ p₃ → (w₃ ≡ w₂) × (p₃ ≡ p₂) × (number r ≡ 0 → ⊥)
+  never-reaches r w₃ p₃ id a n m = strange-line there w₂ p₂ r w₃ p₃ id a m demand-three n

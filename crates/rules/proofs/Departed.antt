@@ -8,10 +8,10 @@ use lib.Dec.{eqb}
 use borrow.Author.Tests.{eqb-true, ne-eqb, le-ltb}
 use Rattle.ledger.specs.Call.Call.{op}
 use Rattle.ledger.specs.Call.Op.{exit}
+use Rattle.ledger.specs.Ended.{Nothing}
 use Rattle.ledger.specs.Ledger.{Ledger}
 use Rattle.ledger.specs.Lists.{those, some, bySlot}
 use Rattle.ledger.specs.Reckon.{cleared, departed, endLinks, endMonitors, endTimers, entered, gone, linked, notice, notices}
-use Rattle.ledger.specs.Room.{known}
 use Rattle.pools.proofs.BoolLaws.{split, true-false}
 use Rattle.tables.specs.declared.Caps.{Caps}
 use Rattle.tables.specs.Columns.{STATE, WATCHED, WATCHER}
@@ -70,18 +70,6 @@ module _ {A : Type 0} (p : A → Bool) where
   none-take (suc n) (x ∷ xs) h = split (p x) (λ r. true-false true refl (rw r at h)) (λ r. rw r (none-take n xs (rw r at h)))
 
 -- ---- nothing of an actor is left
-pub record Nothing (id : ℕ) (l : Ledger) : Type 0 where
-  -- no message is for it, in a mailbox or in a hand
-  pub boxes : some (λ m. eqb (m .to) id) (l .mail .boxes) ≡ false
-  pub hands : some (λ m. eqb (m .to) id) (l .mail .hands) ≡ false
-  -- no timer is its own
-  pub timers : some (λ t. eqb (t .owner) id) (l .time .timers) ≡ false
-  -- it is at no end of a link or a monitor
-  pub links : some (λ p. eqb (p .one) id || eqb (p .two) id) (l .ties .links) ≡ false
-  pub monitors : some (λ m. eqb (m .target) id || eqb (m .watcher) id) (l .ties .monitors) ≡ false
-  -- it is no live actor
-  pub live : known l id ≡ false
-
 -- no notice is for the actor that ends, where it is neither linked with itself nor watches itself
 notices-else : (me reason : ℕ) (l : Ledger) → linked l me me ≡ false → some (λ m. eqb (m .target) me && eqb (m .watcher) me) (l .ties .monitors) ≡ false → some (λ m. eqb (m .to) me) (notices l me reason) ≡ false
 unfolding notices

@@ -67,6 +67,10 @@ module _ (o : Op) (w p : List ℕ) where
       b ≡ test (soundRule w p) → b ≡ true → k ≡ capsOf w → Room k w p → r ≡ ruled (entry o) k (view k w p) .ans → Meets (op o) w p (say (entry o .shape) r) w p
   meets-still {b} {k} {r} still e q z room a = meets-yes e q z (a, record { is = sym (still k (view k w p)); room = room })
 
+-- buffers that hold no sound runtime: 7, and nothing has changed
+pub meets-broken : (o : Op) (w p : List ℕ) {r : Answer} {w′ p′ : List ℕ} → (Holds (soundRule w p) → ⊥) → Meets (op o) w p r w′ p′ → (r ≡ seven o) × (w′ ≡ w) × (p′ ≡ p)
+meets-broken o w p = called-broken (seven o) (step o) w p
+
 -- ---- FIRMNESS, of every call, start among them
 -- no second answer and no second pair of buffers meets the promise
 pub meets-once : (c : Call) (w p : List ℕ) {r r₂ : Answer} {w′ w₂ p′ p₂ : List ℕ} → Meets c w p r w′ p′ → Meets c w p r₂ w₂ p₂ → (r ≡ r₂) × (w′ ≡ w₂) × (p′ ≡ p₂)

@@ -11,6 +11,7 @@ use Rattle.ledger.specs.Call.{Answer, Call, Line, Op, Sizes, number}
 use Rattle.ledger.specs.Call.Answer.{ended}
 use Rattle.ledger.specs.Call.Call.{start, op}
 use Rattle.ledger.specs.Call.Op.{notify, exit}
+use Rattle.ledger.specs.Ended.{Unaimed}
 use Rattle.ledger.specs.Ledger.{Ledger}
 use Rattle.ledger.specs.Reckon.{entered, reckon}
 use Rattle.ledger.specs.Room.{known}
@@ -29,7 +30,6 @@ use Rattle.rules.specs.Run.{seven, step}
 use Rattle.rules.specs.Story.{Aims, Kept, Meets, Story, begins, capsFrom, line, startless}
 use Rattle.rules.specs.Agrees.{Agrees, arrivals, boxAt, handAt, letter, linkAt, monitorAt, timerAt}
 use Rattle.rules.proofs.ColumnLaws.{of-alive}
-use Rattle.rules.proofs.Departed.{Nothing}
 use Rattle.rules.proofs.Exit.{exit-leaves-nothing}
 use Rattle.rules.proofs.Good.{Good}
 use Rattle.rules.proofs.Keep.{good-view, host-keeps}
@@ -41,11 +41,6 @@ use Rattle.rules.proofs.StoryAnswers.{line-answer}
 use Rattle.rules.proofs.Table.{step-agrees, step-keeps}
 
 -- ---- what the reckoning says of an id that is nobody's
--- nothing is left of it, and it does not run
-pub record Unaimed (id : ℕ) (l : Ledger) : Type 0 where
-  pub nothing : Nothing id l
-  pub rests : l .people .running ≡ id → ⊥
-
 module _ (k : Caps) (s : State) (l : Ledger) (g : Good k s) (r : Agrees k l s) (id : ℕ) where
   -- a live slot is another actor's
   another : known l id ≡ false → (a : ℕ) → alive (s STATE) a ≡ true → eqb (actorId s a) id ≡ false
