@@ -57,7 +57,7 @@ hold-line {k} {s} o w p r w′ p′ m h =
     )
 
 -- ---- lines
--- two lists of calls that are the same begin with the same call, and go on with the same calls
+-- the first of some calls; of none, any
 abbrev firstCall : List Call → Call
 firstCall [] = op Op.next
 firstCall (c ∷ cs) = c
