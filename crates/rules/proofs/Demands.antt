@@ -6,27 +6,30 @@ use mathlib.Core.Logic.{_↔_}
 use mathlib.Core.Bool.{true, false}
 use mathlib.Core.List.{List, map}
 use lib.IntN.{ℤ}
+use lib.ListN.{drop, length, take}
 use Rattle.ledger.specs.Call.{Answer, Call, Line, Op, Sizes, Why, code, counted, number, numbered, refuses, zeroed}
 use Rattle.ledger.specs.Call.Answer.{ended, part, plain, turn}
 use Rattle.ledger.specs.Call.Call.{start, op}
-use Rattle.ledger.specs.Call.Op.{exit, next, receive, show}
+use Rattle.ledger.specs.Call.Op.{exit, next, receive, show, shown}
 use Rattle.ledger.specs.Ended.{Unaimed}
 use Rattle.ledger.specs.Ledger.{Ledger, nothing}
 use Rattle.ledger.specs.Reckon.{entered, fired, firings, later, leaf, reckon, short, verdict}
 use Rattle.ledger.specs.Room.{inHand, known}
 use Rattle.pools.specs.Pool.{occurs}
 use Rattle.tables.specs.State.{PastSame, capsOf}
+use Rattle.rules.specs.declared.Shown.{Shown}
 use Rattle.rules.specs.Rule.{Holds}
 use Rattle.rules.specs.Terms.{isActor}
 use Rattle.rules.specs.Sound.{soundRule, viewOf}
 use Rattle.rules.specs.Agrees.{shows}
 use Rattle.rules.specs.Calls.{Sleeps}
-use Rattle.rules.specs.Run.{seven}
+use Rattle.rules.specs.Run.{sayShown, seven}
 use Rattle.rules.specs.Story.{Aims, Kept, Meets, Story, capsFor, line, startless}
 use Rattle.rules.proofs.Counts as Counts
 use Rattle.rules.proofs.HostLaws.{meets-broken, meets-once}
 use Rattle.rules.proofs.Keep.{good-view}
 use Rattle.rules.proofs.Past.{line-past}
+use Rattle.rules.proofs.Showing.{show-is-shown}
 use Rattle.rules.proofs.Sleep.{line-sleep}
 use Rattle.rules.proofs.Story.{begun-kept, story-kept}
 use Rattle.rules.proofs.StoryAnswers.{line-counts, line-refusal, line-refused, line-seven, line-shown, line-two, line-unmet}
@@ -53,6 +56,11 @@ unsound o w p r w′ p′ m n = meets-broken o w p n m
 -- "every other number answered is 0": beside receive's 5 and 6 too
 pub unmet : (sender class tag : ℕ) (wait : ℤ) (w p : List ℕ) (r : Answer) (w′ p′ : List ℕ) → Meets (op (receive sender class tag wait)) w p r w′ p′ → (number r ≡ 0 → ⊥) → r ≡ zeroed r
 unmet = line-unmet
+
+-- on the same buffers, sound or not, `show` gives the part of the payload area at the offset and of the length that fg_shown answers
+pub shown-where : (w p bytes : List ℕ) (q : Shown) (w₁ p₁ w₂ p₂ : List ℕ) → Meets (op show) w p (part bytes) w₁ p₁ → Meets (op shown) w p (sayShown q) w₂ p₂ →
+    (bytes ≡ take (q .length) (drop (q .offset) p)) × (length bytes ≡ q .length)
+shown-where w p bytes q w₁ p₁ w₂ p₂ = show-is-shown w p bytes q
 
 -- ---- DEMAND 3: a start that answered 0, and any story after it
 module _ (z : Sizes) {w p w₁ p₁ w₂ p₂ : List ℕ} {xs : List Line} (began : Meets (start z) w p (plain 0) w₁ p₁) (story : Story w₁ p₁ xs w₂ p₂) where

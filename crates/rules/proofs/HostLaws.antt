@@ -6,6 +6,7 @@ use mathlib.Core.List.{List}
 use Rattle.ledger.specs.Call.{Answer, Call, Op}
 use Rattle.ledger.specs.Call.Answer.{plain}
 use Rattle.ledger.specs.Call.Call.{start, op}
+use Rattle.pools.proofs.BoolLaws.{split}
 use Rattle.tables.specs.declared.Caps.{Caps}
 use Rattle.tables.specs.State.{State, view, capsOf, joinW, joinP, Left, Room}
 use Rattle.tables.proofs.ViewLaws.{join-view}
@@ -13,7 +14,7 @@ use Rattle.rules.specs.Rule.{test, Holds}
 use Rattle.rules.specs.Sound.{fitRule, rangeRule, soundRule, viewOf, Ready}
 use Rattle.rules.specs.Calls.{Ans, Out, Shape, entry, ruled}
 use Rattle.rules.specs.Calls.Shape.{aNumber, anId, aTurn, aMessage, aPart, aPlace, anEnd, anAdvance, aReport}
-use Rattle.rules.specs.Host.{Called, Gives, Started, canStart, fresh}
+use Rattle.rules.specs.Host.{Called, Gives, Started, answered, canStart, fresh}
 use Rattle.rules.specs.Run.{say, seven, step}
 use Rattle.rules.specs.Story.{Meets}
 use Rattle.rules.proofs.RuleLaws.{and-same, reads, broken}
@@ -89,7 +90,13 @@ say-once anEnd a b e = let f : _≡_ {A = Ans anEnd} (record { no = a .no; sent 
 say-once anAdvance a b e = let f : _≡_ {A = Ans anAdvance} (record { no = a .no; fired = a .fired }) (record { no = b .no; fired = b .fired }) = cc in f
 say-once aReport a b e = let f : _≡_ {A = Ans aReport} (record { no = a .no; free = a .free }) (record { no = b .no; free = b .free }) = cc in f
 
--- so C gets no second struct
+-- so what C gets is the answer of the rule, or 7's
+pub meets-answered : (o : Op) (w p : List ℕ) (a : Ans (entry o .shape)) {w′ p′ : List ℕ} → Meets (op o) w p (say (entry o .shape) a) w′ p′ → a ≡ answered (entry o) w p
+meets-answered o w p a c =
+    let e = entry o in
+    say-once (e .shape) a (answered e w p) (split (test (soundRule w p)) (λ t. rw t (rw t at (c .ans))) (λ t. rw t (rw t at (c .ans))))
+
+-- and no second struct
 pub struct-once : (o : Op) (w p : List ℕ) (a b : Ans (entry o .shape)) {w′ w₂ p′ p₂ : List ℕ} →
     Meets (op o) w p (say (entry o .shape) a) w′ p′ → Meets (op o) w p (say (entry o .shape) b) w₂ p₂ → a ≡ b
 struct-once o w p a b c d = say-once (entry o .shape) a b (meets-once (op o) w p c d .0)

@@ -42,6 +42,7 @@ pub mod RunningAgrees
 pub mod SameTests
 pub mod Sleep
 pub mod SlotLife
+pub mod Showing
 pub mod SoundLaws
 pub mod Start
 pub mod Story

@@ -1,5 +1,5 @@
 -- What a host call promises of its answer and of both buffers, for any rule; and start. Assumes nothing.
-use Prim.Native.Nat.{ℕ, _-_, _*_, _^_, min}
+use Prim.Native.Nat.{ℕ, _+_, _-_, _*_, _^_, min}
 use mathlib.Core.Path.{_≡_}
 use mathlib.Core.Bool.{Bool, cond, _&&_}
 use mathlib.Core.List.{List}
@@ -13,7 +13,7 @@ use Rattle.pools.specs.Bits.{WORD-BITS}
 use Rattle.tables.specs.State.{State, capsOf, joinP, joinW, needed, neededP, poke, size, view, Left}
 use Rattle.rules.specs.Rule.{test}
 use Rattle.rules.specs.Sound.{rangeRule, soundRule, viewOf}
-use Rattle.rules.specs.Calls.{Out}
+use Rattle.rules.specs.Calls.{Ans, Entry, Out, refusal, ruled, shownEntry}
 
 -- "Buffers that hold no sound runtime are refused by every call but start": the answer `seven` and nothing changed;
 -- any others give the answer of the rule, and every word and byte is that of the state it leaves
@@ -25,6 +25,19 @@ pub record Called {A : Type 0} (seven : A) (rule : Caps → State → Out A) (w 
 -- what a function inside a call does: on buffers that hold a state, the rule's answer, and the rule's state left
 abbrev pub Gives : {A : Type 0} → (Caps → State → Out A) → Caps → (w p : List ℕ) → A → (w′ p′ : List ℕ) → Type 0
 Gives rule k w p r w′ p′ = (r ≡ rule k (view k w p) .ans) × Left k (rule k (view k w p) .state) w′ p′
+
+-- ---- where the shown part lies
+-- the place so many bytes past another: the same block, so much further on
+abbrev pub further : ℕ × ℕ → ℕ → ℕ × ℕ
+further area n = (area .0, area .1 + n)
+
+-- the answer that a call gives on these buffers, by its entry
+abbrev pub answered : (e : Entry) → (w p : List ℕ) → Ans (e .shape)
+answered e w p = cond (test (soundRule w p)) (ruled e (capsOf w) (viewOf w p) .ans) (refusal (e .shape) 7)
+
+-- "a returned part of the lent area, from its entry's fifth byte": the part begins as far into the area as fg_shown answers on the same buffers, so at the area's first byte beside a refusal
+abbrev pub shownAt : (area : ℕ × ℕ) → (w p : List ℕ) → ℕ × ℕ
+shownAt area w p = further area (answered shownEntry w p .offset)
 
 -- ---- start
 -- "zeros the needed payload bytes", and every needed word; "Words and bytes past the needed ones are never changed"
