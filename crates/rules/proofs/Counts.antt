@@ -74,5 +74,5 @@ module _ (k : Caps) (s : State) (l : Ledger) (g : Good k s) (a : Agrees k l s) w
       (rw n, step-counts (exit reason) k s l g a n ∙ rw e, e, rw e (sent-or-lost (l .people .running) reason l))
 
   -- THE LAW: no timer fires twice in one advance
-  pub fires-once : (micros id : ℕ) → occurs id (map (λ t. t .id) (fired (firings (later micros l)) (later micros l))) ≤ 1
-  fires-once micros id = fired-once (firings (later micros l)) (later micros l) (once-there k l s (g .sized) (g .range) a) id
+  pub advance-once : (micros id : ℕ) → occurs id (map (λ t. t .id) (fired (firings (later micros l)) (later micros l))) ≤ 1
+  advance-once micros id = fired-once (firings (later micros l)) (later micros l) (once-there k l s (g .sized) (g .range) a) id

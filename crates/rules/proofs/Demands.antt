@@ -4,7 +4,7 @@ use Prim.Native.Nat.{ℕ, _≤_}
 use mathlib.Core.Path.{_≡_}
 use mathlib.Core.Logic.{_↔_}
 use mathlib.Core.Bool.{true, false}
-use mathlib.Core.List.{List, map}
+use mathlib.Core.List.{List, [], _∷_, map}
 use lib.IntN.{ℤ}
 use lib.ListN.{drop, length, take}
 use Rattle.ledger.specs.Call.{Answer, Call, Line, Op, Sizes, Why, code, counted, number, numbered, refuses, zeroed}
@@ -12,7 +12,7 @@ use Rattle.ledger.specs.Call.Answer.{ended, part, plain, turn}
 use Rattle.ledger.specs.Call.Call.{start, op}
 use Rattle.ledger.specs.Call.Op.{exit, next, receive, show, shown}
 use Rattle.ledger.specs.Ended.{Unaimed}
-use Rattle.ledger.specs.Ledger.{Ledger, nothing}
+use Rattle.ledger.specs.Ledger.{Ledger, Message, nothing}
 use Rattle.ledger.specs.Reckon.{entered, fired, firings, later, leaf, reckon, short, verdict}
 use Rattle.ledger.specs.Room.{inHand, known}
 use Rattle.pools.specs.Pool.{occurs}
@@ -21,41 +21,41 @@ use Rattle.rules.specs.declared.Shown.{Shown}
 use Rattle.rules.specs.Rule.{Holds}
 use Rattle.rules.specs.Terms.{isActor}
 use Rattle.rules.specs.Sound.{soundRule, viewOf}
-use Rattle.rules.specs.Agrees.{shows}
+use Rattle.rules.specs.Agrees.{spelled}
 use Rattle.rules.specs.Calls.{Sleeps}
 use Rattle.rules.specs.Run.{sayShown, seven}
 use Rattle.rules.specs.Story.{Aims, Kept, Meets, Story, capsFor, line, startless}
-use Rattle.rules.proofs.Counts as Counts
+use Rattle.rules.proofs.Counts.{advance-once}
 use Rattle.rules.proofs.HostLaws.{meets-broken, meets-once}
 use Rattle.rules.proofs.Keep.{good-view}
 use Rattle.rules.proofs.Past.{line-past}
 use Rattle.rules.proofs.Showing.{show-is-shown}
 use Rattle.rules.proofs.Sleep.{line-sleep}
 use Rattle.rules.proofs.Story.{begun-kept, story-kept}
-use Rattle.rules.proofs.StoryAnswers.{line-counts, line-refusal, line-refused, line-seven, line-shown, line-two, line-unmet}
+use Rattle.rules.proofs.StoryAnswers.{line-counts, line-in-hand, line-refusal, line-refused, line-seven, line-two, line-unmet, line-unshown}
 use Rattle.rules.proofs.StoryEnds.{ended-stays-ended, strange-line}
 
 -- ---- DEMAND 1, of every call on any two buffers
 module _ (c : Call) (w p : List ℕ) (r : Answer) (w′ p′ : List ℕ) (meets : Meets c w p r w′ p′) where
   -- a refusal, 1, 2, 3, 4 or 7, changes not one word or byte, and zeros stand beside the number
-  pub refused : refuses (number r) ≡ true → (w′ ≡ w) × (p′ ≡ p) × (r ≡ zeroed r)
-  refused = line-refused c w p r w′ p′ meets
+  pub refusals-change-nothing : refuses (number r) ≡ true → (w′ ≡ w) × (p′ ≡ p) × (r ≡ zeroed r)
+  refusals-change-nothing = line-refused c w p r w′ p′ meets
 
   -- what is past the needed words and bytes stays, and both buffers are as long as they were
-  pub past : PastSame (capsFor c w) w p w′ p′
-  past = line-past c w p r w′ p′ meets
+  pub past-stays : PastSame (capsFor c w) w p w′ p′
+  past-stays = line-past c w p r w′ p′ meets
 
   -- DEMAND 2: no other answer and no other buffers meet the promise
   pub only-one : (r₂ : Answer) (w₂ p₂ : List ℕ) → Meets c w p r₂ w₂ p₂ → (r ≡ r₂) × (w′ ≡ w₂) × (p′ ≡ p₂)
   only-one r₂ w₂ p₂ = meets-once c w p meets
 
 -- buffers that hold no sound runtime: every call but start answers 7, zeros beside it, and changes nothing
-pub unsound : (o : Op) (w p : List ℕ) (r : Answer) (w′ p′ : List ℕ) → Meets (op o) w p r w′ p′ → (Holds (soundRule w p) → ⊥) → (r ≡ seven o) × (w′ ≡ w) × (p′ ≡ p)
-unsound o w p r w′ p′ m n = meets-broken o w p n m
+pub unsound-seven : (o : Op) (w p : List ℕ) (r : Answer) (w′ p′ : List ℕ) → Meets (op o) w p r w′ p′ → (Holds (soundRule w p) → ⊥) → (r ≡ seven o) × (w′ ≡ w) × (p′ ≡ p)
+unsound-seven o w p r w′ p′ m n = meets-broken o w p n m
 
 -- "every other number answered is 0": beside receive's 5 and 6 too
-pub unmet : (sender class tag : ℕ) (wait : ℤ) (w p : List ℕ) (r : Answer) (w′ p′ : List ℕ) → Meets (op (receive sender class tag wait)) w p r w′ p′ → (number r ≡ 0 → ⊥) → r ≡ zeroed r
-unmet = line-unmet
+pub zeros-beside : (sender class tag : ℕ) (wait : ℤ) (w p : List ℕ) (r : Answer) (w′ p′ : List ℕ) → Meets (op (receive sender class tag wait)) w p r w′ p′ → (number r ≡ 0 → ⊥) → r ≡ zeroed r
+zeros-beside = line-unmet
 
 -- on the same buffers, sound or not, `show` gives the part of the payload area at the offset and of the length that fg_shown answers
 pub shown-where : (w p bytes : List ℕ) (q : Shown) (w₁ p₁ w₂ p₂ : List ℕ) → Meets (op show) w p (part bytes) w₁ p₁ → Meets (op shown) w p (sayShown q) w₂ p₂ →
@@ -90,9 +90,13 @@ module _ (z : Sizes) {w p w₁ p₁ w₂ p₂ : List ℕ} {xs : List Line} (bega
   pub refusal-due : (o : Op) (r : Answer) (w₃ p₃ : List ℕ) → Meets (op o) w₂ p₂ r w₃ p₃ → numbered r ≡ true → (y : Why) → (number r ≡ code y) ↔ (verdict there (op o) ≡ code y)
   refusal-due o r w₃ p₃ m n y = line-refusal o y there w₂ p₂ r w₃ p₃ m demand-three n
 
-  -- what is shown are the bytes of the message in the caller's hand: none where nobody runs or nothing is in hand
-  pub shown-exactly : (r : Answer) (w₃ p₃ : List ℕ) → Meets (op show) w₂ p₂ r w₃ p₃ → r ≡ part (shows (inHand there))
-  shown-exactly r w₃ p₃ m = line-shown there w₂ p₂ r w₃ p₃ m demand-three
+  -- what is shown: nothing where a refusal applies, that is where nobody runs or the hand is empty
+  pub shown-empty : (y : Why) (r : Answer) (w₃ p₃ : List ℕ) → Meets (op show) w₂ p₂ r w₃ p₃ → verdict there (op show) ≡ code y → r ≡ part []
+  shown-empty y r w₃ p₃ m = line-unshown y there w₂ p₂ r w₃ p₃ m demand-three
+
+  -- else the bytes of the message in the caller's hand
+  pub shown-exactly : (r : Answer) (w₃ p₃ : List ℕ) → Meets (op show) w₂ p₂ r w₃ p₃ → verdict there (op show) ≡ 0 → (m : Message) × (inHand there ≡ m ∷ []) × (r ≡ part (spelled (m .says)))
+  shown-exactly r w₃ p₃ m = line-in-hand there w₂ p₂ r w₃ p₃ m demand-three
 
   -- the time to sleep: until then nothing is to be done, and then something is; -1 where nothing ever is
   pub sleeps-right : (t : ℤ) (w₃ p₃ : List ℕ) → Meets (op next) w₂ p₂ (turn 6 0 0 t) w₃ p₃ → Sleeps (capsOf w₂) (viewOf w₂ p₂) t
@@ -100,7 +104,7 @@ module _ (z : Sizes) {w p w₁ p₁ w₂ p₂ : List ℕ} {xs : List Line} (bega
 
   -- no timer fires twice in one advance
   pub fires-once : (micros id : ℕ) → occurs id (map (λ t. t .id) (fired (firings (later micros there)) (later micros there))) ≤ 1
-  fires-once micros id = Counts.fires-once (capsOf w₂) (viewOf w₂ p₂) there (good-view w₂ p₂ (demand-three .sound)) (demand-three .agrees) micros id
+  fires-once micros id = advance-once (capsOf w₂) (viewOf w₂ p₂) there (good-view w₂ p₂ (demand-three .sound)) (demand-three .agrees) micros id
 
   -- after an exit, until a new start: the actor that ended is nobody, owns nothing, and nothing is aimed at it
   pub after-exit : (reason sent lost : ℕ) {w₃ p₃ w₄ p₄ : List ℕ} {ys : List Line} → Meets (op (exit reason)) w₂ p₂ (ended 0 sent lost) w₃ p₃ → Story w₃ p₃ ys w₄ p₄ → startless ys ≡ true →

@@ -374,8 +374,8 @@ module _ (o : Op) where
       (λ p e. true-false (refuses (number (say (entry o .shape) (entry o .work k s .ans)))) e (work-done k s))
 
   -- no call answers 7
-  pub never-seven : (k : Caps) (s : State) → number (step o k s .ans) ≡ 7 → ⊥
-  never-seven k s =
+  pub step-seven : (k : Caps) (s : State) → number (step o k s .ans) ≡ 7 → ⊥
+  step-seven k s =
       step-all k s (λ x. number (say (entry o .shape) (x .ans)) ≡ 7 → ⊥)
       (λ y e. ⊎-elim (λ h. eqb-false (code y) 7 (why-refuses y .1) (sym (h (code y)) ∙ e)) (λ h. zero-seven (sym (h .mute (refusal (entry o .shape) (code y)) .1) ∙ e)) (proved o .speaks))
       (λ p e. true-false (refuses (number (say (entry o .shape) (entry o .work k s .ans)))) (ap refuses e) (work-done k s))
