@@ -50,10 +50,6 @@ module _ {A : Type 0} (seven : A) (rule : Caps → State → Out A) (keeps : (k 
       (λ t. let h = reads (soundRule w p) .0 t in let d = called-sound seven rule w p h c in rw (d .1, d .2) (rule-past w p h))
       (λ t. let d = called-broken seven rule w p (λ h. true-false (test (soundRule w p)) (reads (soundRule w p) .1 h) t) c in rw (d .1, d .2) (refl, refl, refl, refl))
 
--- a call on sound buffers
-pub past-kept : (o : Op) (w p : List ℕ) → Holds (soundRule w p) → let s = step o (capsOf w) (viewOf w p) .state in PastSame (capsOf w) w p (joinW s) (joinP s)
-past-kept o = rule-past (seven o) (step o) (step-keeps o) (step-past o)
-
 -- ---- start
 -- it does not write there
 pub fresh-past : (k : Caps) (s : State) → PastLeft s (fresh k s)

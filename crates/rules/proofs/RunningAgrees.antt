@@ -12,7 +12,7 @@ use Rattle.ledger.specs.Call.Op.{next, shown, spawn, yield, report}
 use Rattle.ledger.specs.Ledger.{Actor, Ledger, Message, people, withPeople}
 use Rattle.ledger.specs.Lists.{first}
 use Rattle.ledger.specs.Reckon.{entered, runs}
-use Rattle.ledger.specs.Room.{actorsLeft, datasLeft, inHand, linksLeft, mailsLeft, monitorsLeft, timersLeft}
+use Rattle.ledger.specs.Room.{actorsLeft, inHand}
 use Rattle.pools.specs.Pool.{occurs}
 use Rattle.pools.specs.Slot.{idOf, unused, usable}
 use Rattle.pools.proofs.BoolLaws.{split, true-false}
