@@ -13,7 +13,7 @@ use Rattle.ledger.specs.Call.Call.{start, op}
 use Rattle.ledger.specs.Call.Op.{exit, next, receive, show, shown}
 use Rattle.ledger.specs.Ended.{Unaimed}
 use Rattle.ledger.specs.Ledger.{Ledger, Message, nothing}
-use Rattle.ledger.specs.Reckon.{entered, fired, firings, later, leaf, reckon, short, verdict}
+use Rattle.ledger.specs.Reckon.{entered, firedTimers, firings, later, leaf, reckon, short, verdict}
 use Rattle.ledger.specs.Room.{inHand, known}
 use Rattle.pools.specs.Pool.{occurs}
 use Rattle.tables.specs.State.{PastSame, capsOf}
@@ -103,7 +103,7 @@ module _ (z : Sizes) {w p w₁ p₁ w₂ p₂ : List ℕ} {xs : List Line} (bega
   sleeps-right t w₃ p₃ m = line-sleep t w₂ p₂ w₃ p₃ m (demand-three .sound)
 
   -- no timer fires twice in one advance
-  pub fires-once : (micros id : ℕ) → occurs id (map (λ t. t .id) (fired (firings (later micros there)) (later micros there))) ≤ 1
+  pub fires-once : (micros id : ℕ) → occurs id (map (λ t. t .id) (firedTimers (firings (later micros there)) (later micros there))) ≤ 1
   fires-once micros id = advance-once (capsOf w₂) (viewOf w₂ p₂) there (good-view w₂ p₂ (demand-three .sound)) (demand-three .agrees) micros id
 
   -- after an exit, until a new start: the actor that ended is nobody, owns nothing, and nothing is aimed at it

@@ -11,7 +11,7 @@ use borrow.Author.Tests.{eqb-true, eqb-false, eq-eqb, ltb-true, lt-leb, lt-ltb}
 use Rattle.ledger.specs.Ledger.{Ledger, Timer}
 use Rattle.ledger.specs.Limits.{TIMER-FACTOR}
 use Rattle.ledger.specs.Lists.{first, some, those}
-use Rattle.ledger.specs.Reckon.{dueNow, endTimers, fired, firing, firings, rearmed, sooner, soonest, tick, timer}
+use Rattle.ledger.specs.Reckon.{dueNow, endTimers, firedTimers, firing, firings, rearmed, sooner, soonest, tick, timer}
 use Rattle.ledger.specs.Room.{messagesLeft}
 use Rattle.pools.specs.Pool.{occurs}
 use Rattle.pools.proofs.BoolLaws.{split, true-false, and-left, and-right, and-true}
@@ -225,14 +225,14 @@ few-more id t ts ds e h =
     (λ q. rw q (omega (arith, h, ap length n, those-most (λ u. not (eqb (u .id) (t .id))) (those (isId id) ds))))
 
 -- of each id no more fire than are due
-fired-few : (n : ℕ) (l : Ledger) → Once l → (id : ℕ) → length (those (isId id) (fired n l)) ≤ length (those (isId id) (dueNow l))
-unfolding fired firing
+fired-few : (n : ℕ) (l : Ledger) → Once l → (id : ℕ) → length (those (isId id) (firedTimers n l)) ≤ length (those (isId id) (dueNow l))
+unfolding firedTimers firing
 fired-few zero l once id = rw (nothing-there (isId id)) (omega arith)
 fired-few (suc n) l once id =
     ⊎-elim
     (λ e. rw e (fired-few n l once id))
     (λ x. let i = fired-few n (firing (x .0 ∷ []) l) (once-fired l once (x .0) (x .1)) id in
-    rw (x .1) (few-more id (x .0) (fired n (firing (x .0 ∷ []) l)) (dueNow l) (due-alone l once (x .0) (x .1)) (rw (due-fired l once (x .0) (x .1)) at i)))
+    rw (x .1) (few-more id (x .0) (firedTimers n (firing (x .0 ∷ []) l)) (dueNow l) (due-alone l once (x .0) (x .1)) (rw (due-fired l once (x .0) (x .1)) at i)))
     (soonest-either (l .time .clock) (l .time .timers))
 
 -- ---- there is a soonest where one is due
@@ -319,8 +319,8 @@ module _ (clock : ℕ) where
       (none-those (λ t. leb (t .due) clock) ts)
 
 -- THE LAW: of the timers that are due as many fire as are asked for
-pub fired-all : (n : ℕ) (l : Ledger) → Once l → n ≤ length (dueNow l) → length (fired n l) ≡ n
-unfolding fired firing
+pub fired-all : (n : ℕ) (l : Ledger) → Once l → n ≤ length (dueNow l) → length (firedTimers n l) ≡ n
+unfolding firedTimers firing
 fired-all zero l once h = refl
 fired-all (suc n) l once h =
     ⊎-elim
@@ -329,7 +329,7 @@ fired-all (suc n) l once h =
     (soonest-either (l .time .clock) (l .time .timers))
 
 -- THE LAW: where no two timers have one id, no timer fires twice in one advance
-pub fired-once : (n : ℕ) (l : Ledger) → Once l → (id : ℕ) → occurs id (map (λ t. t .id) (fired n l)) ≤ 1
+pub fired-once : (n : ℕ) (l : Ledger) → Once l → (id : ℕ) → occurs id (map (λ t. t .id) (firedTimers n l)) ≤ 1
 fired-once n l once id =
-    rw (occurs-those id (fired n l))
+    rw (occurs-those id (firedTimers n l))
     (omega (arith, fired-few n l once id, ap length (order-out (isId id) (λ u. leb (u .due) (l .time .clock)) (l .time .timers)), those-most (λ u. leb (u .due) (l .time .clock)) (those (isId id) (l .time .timers)), once id))
