@@ -5,16 +5,17 @@ use crate::call::{Answer, Call};
 use crate::layout::{self, CLOCK, DATA_FREE, SPARE};
 use model::limits::*;
 use model::state::{Activity, Reason, State};
-use model::{Ended, Model};
+use model::{Advanced, Ended, Model};
 use std::sync::OnceLock;
 
-pub const NAMES: [&str; 20] = [
+pub const NAMES: [&str; 21] = [
     "all-unsound",
     "next-names-slot-0",
     "notify-stores-nothing",
     "exit-keeps-timers",
     "advance-fires-all",
     "counts-invented",
+    "fired-invented",
     "only-the-slot-of-an-id",
     "notices-before-clearing",
     "wakes-on-any-message",
@@ -113,6 +114,9 @@ pub fn answer(answer: Answer) -> Answer {
     match answer {
         Answer::Ended(ended) if is("counts-invented") => {
             Answer::Ended(Ended { sent: ended.sent + ended.lost, lost: 0, ..ended })
+        }
+        Answer::Advanced(advanced) if is("fired-invented") && advanced.fired > 1 => {
+            Answer::Advanced(Advanced { fired: advanced.fired + 1, ..advanced })
         }
         answer => answer,
     }
