@@ -25,6 +25,7 @@ pub mod Ids
 pub mod Keep
 pub mod LeastLaws
 pub mod LedgerLaws
+pub mod Letters
 pub mod MessageLaws
 pub mod Messages
 pub mod MessagesAgree
