@@ -1,19 +1,21 @@
 -- THE THEOREMS, on one page. Somebody lends two buffers, whatever they hold. All that is known of a call on them is its promise, `Meets`, which is the contract of its function in
 -- runtime/src; nobody else writes the buffers. Nothing else is assumed.
-use Prim.Native.Nat.{ℕ, _≤_}
+use Prim.Native.Nat.{ℕ, _+_, _≤_}
 use mathlib.Core.Path.{_≡_}
 use mathlib.Core.Logic.{_↔_}
-use mathlib.Core.Bool.{true, false}
-use mathlib.Core.List.{List, [], _∷_, map}
+use mathlib.Core.Bool.{true, false, not}
+use mathlib.Core.List.{List, [], _∷_, _++_, map}
 use lib.IntN.{ℤ}
 use lib.ListN.{drop, length, take}
+use lib.Dec.{eqb}
 use Rattle.ledger.specs.Call.{Answer, Call, Line, Op, Sizes, Why, code, counted, number, numbered, refuses, zeroed}
-use Rattle.ledger.specs.Call.Answer.{ended, part, plain, turn}
+use Rattle.ledger.specs.Call.Answer.{advanced, ended, part, plain, turn}
 use Rattle.ledger.specs.Call.Call.{start, op}
-use Rattle.ledger.specs.Call.Op.{exit, next, receive, show, shown}
+use Rattle.ledger.specs.Call.Op.{advance, exit, next, receive, show, shown}
 use Rattle.ledger.specs.Ended.{Unaimed}
 use Rattle.ledger.specs.Ledger.{Ledger, Message, nothing}
-use Rattle.ledger.specs.Reckon.{entered, firedTimers, firings, later, leaf, reckon, short, verdict}
+use Rattle.ledger.specs.Lists.{those}
+use Rattle.ledger.specs.Reckon.{entered, firedTimers, firings, later, leaf, notices, page, reckon, short, verdict}
 use Rattle.ledger.specs.Room.{inHand, known}
 use Rattle.pools.specs.Pool.{occurs}
 use Rattle.tables.specs.State.{PastSame, capsOf}
@@ -25,7 +27,7 @@ use Rattle.rules.specs.Agrees.{spelled}
 use Rattle.rules.specs.Calls.{Sleeps}
 use Rattle.rules.specs.Run.{sayShown, seven}
 use Rattle.rules.specs.Story.{Aims, Kept, Meets, Story, capsFor, line, startless}
-use Rattle.rules.proofs.Counts.{advance-once}
+use Rattle.rules.proofs.Counts.{advance-once, line-notices, line-ticks}
 use Rattle.rules.proofs.HostLaws.{meets-broken, meets-once}
 use Rattle.rules.proofs.Keep.{good-view}
 use Rattle.rules.proofs.Past.{line-past}
@@ -101,6 +103,20 @@ module _ (z : Sizes) {w p w₁ p₁ w₂ p₂ : List ℕ} {xs : List Line} (bega
   -- the time to sleep: until then nothing is to be done, and then something is; -1 where nothing ever is
   pub sleeps-right : (t : ℤ) (w₃ p₃ : List ℕ) → Meets (op next) w₂ p₂ (turn 6 0 0 t) w₃ p₃ → Sleeps (capsOf w₂) (viewOf w₂ p₂) t
   sleeps-right t w₃ p₃ m = line-sleep t w₂ p₂ w₃ p₃ m (demand-three .sound)
+
+  -- as many ticks arrive as an advance answers, behind all that was there: as many as timers are due and find room
+  pub ticks-arrive : (micros n : ℕ) (w₃ p₃ : List ℕ) → Meets (op (advance micros)) w₂ p₂ (advanced 0 n) w₃ p₃ →
+      (entered (line (op (advance micros)) (advanced 0 n)) there .mail .boxes ≡ there .mail .boxes ++ page (advance micros) .sends there)
+      × (n ≡ length (page (advance micros) .sends there))
+      × (n ≡ firings (later micros there))
+  ticks-arrive micros n w₃ p₃ = line-ticks there w₂ p₂ w₃ p₃ demand-three micros n
+
+  -- as many notices arrive as an exit sent, and with those that were lost they are all of its partners and watchers
+  pub notices-arrive : (reason sent lost : ℕ) (w₃ p₃ : List ℕ) → Meets (op (exit reason)) w₂ p₂ (ended 0 sent lost) w₃ p₃ →
+      (entered (line (op (exit reason)) (ended 0 sent lost)) there .mail .boxes ≡ those (λ m. not (eqb (m .to) (there .people .running))) (there .mail .boxes) ++ page (exit reason) .sends there)
+      × (sent ≡ length (page (exit reason) .sends there))
+      × (sent + lost ≡ length (notices there (there .people .running) reason))
+  notices-arrive reason sent lost w₃ p₃ = line-notices there w₂ p₂ w₃ p₃ demand-three reason sent lost
 
   -- no timer fires twice in one advance
   pub fires-once : (micros id : ℕ) → occurs id (map (λ t. t .id) (firedTimers (firings (later micros there)) (later micros there))) ≤ 1
