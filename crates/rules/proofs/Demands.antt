@@ -100,9 +100,9 @@ module _ (z : Sizes) {w p w₁ p₁ w₂ p₂ : List ℕ} {xs : List Line} (bega
   pub shown-exactly : (r : Answer) (w₃ p₃ : List ℕ) → Meets (op show) w₂ p₂ r w₃ p₃ → verdict there (op show) ≡ 0 → (m : Message) × (inHand there ≡ m ∷ []) × (r ≡ part (spelled (m .says)))
   shown-exactly r w₃ p₃ m = line-in-hand there w₂ p₂ r w₃ p₃ m demand-three
 
-  -- the time to sleep: until then nothing is to be done, and then something is; -1 where nothing ever is
-  pub sleeps-right : (t : ℤ) (w₃ p₃ : List ℕ) → Meets (op next) w₂ p₂ (turn 6 0 0 t) w₃ p₃ → Sleeps (capsOf w₂) (viewOf w₂ p₂) t
-  sleeps-right t w₃ p₃ m = line-sleep t w₂ p₂ w₃ p₃ m (demand-three .sound)
+  -- beside next's 6 stands the time to sleep: until then nothing is to be done, and then something is; -1 where nothing ever is
+  pub sleeps-right : (r : Answer) (w₃ p₃ : List ℕ) → Meets (op next) w₂ p₂ r w₃ p₃ → number r ≡ 6 → (t : ℤ) × (r ≡ turn 6 0 0 t) × Sleeps (capsOf w₂) (viewOf w₂ p₂) t
+  sleeps-right r w₃ p₃ m = line-sleep w₂ p₂ r w₃ p₃ m (demand-three .sound)
 
   -- as many ticks arrive as an advance answers, behind all that was there: as many as timers are due and find room
   pub ticks-arrive : (micros n : ℕ) (w₃ p₃ : List ℕ) → Meets (op (advance micros)) w₂ p₂ (advanced 0 n) w₃ p₃ →

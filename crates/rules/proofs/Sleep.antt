@@ -1,14 +1,14 @@
 -- The time to sleep: no timer is due and no deadline is reached before it has passed, and one is then. Assumes nothing.
 use Prim.Native.Nat.{ℕ, zero, suc, _+_, _-_, _≤_, _<_, min}
 use native.Mathlib.Omega.{arith}
-use mathlib.Core.Path.{_≡_, refl, sym, ap, subst}
+use mathlib.Core.Path.{_≡_, refl, sym, ap, subst, _∙_}
 use mathlib.Core.Bool.{Bool, true, false, not, _||_}
 use mathlib.Core.List.{List}
 use lib.IntN.{ℤ, pos, negsuc}
 use lib.Seq.{getD-set-same}
 use lib.Dec.{eqb, ltb, leb, lit<}
 use borrow.Author.Tests.{eqb-true, eqb-false, ltb-true, ltb-false, leb-true, leb-false, le-leb, not-false}
-use Rattle.ledger.specs.Call.{number}
+use Rattle.ledger.specs.Call.{Answer, number}
 use Rattle.ledger.specs.Call.Answer.{turn}
 use Rattle.ledger.specs.Call.Call.{op}
 use Rattle.ledger.specs.Call.Op.{next}
@@ -144,19 +144,15 @@ module _ (k : Caps) (s : State) where
   sleep-once (negsuc (suc n)) z f g = absurd f
 
   -- ---- next
-  -- what stands beside a 6 is the time to sleep
-  pub next-six : (z : ℤ) → step next k s .ans ≡ turn 6 0 0 z → sleep k s ≡ z
+  -- "every other number answered is 0": beside its 6 stands the time to sleep alone
+  pub next-idle : number (step next k s .ans) ≡ 6 → step next k s .ans ≡ turn 6 0 0 (sleep k s)
   unfolding ruled
-  next-six z e =
+  next-idle e =
       split (eqb (runner s) 0)
       (λ p. split (ltb (firstHead s LEVELS) (head s QUEUED))
-      (λ q. absurd (let n = ap number e in let m : _≡_ {A = ℕ} 0 6 = rw (p, q) at n in omega arith))
-      (λ q. let t : turn 6 0 0 (sleep k s) ≡ turn 6 0 0 z = rw (p, q) at e in cc))
-      (λ p. absurd (let n = ap number e in let m : _≡_ {A = ℕ} 4 6 = rw p at n in omega arith))
-
-  -- THE THEOREM: a next that answers 6 says how long nothing is to be done, to the microsecond, or -1 where nothing ever is
-  pub next-sleep : (z : ℤ) → Good k s → step next k s .ans ≡ turn 6 0 0 z → Sleeps k s z
-  next-sleep z g e = subst (λ (z : ℤ). Sleeps k s z) (next-six z e) (sleep-right g)
+      (λ q. absurd (let n : _≡_ {A = ℕ} 0 6 = rw (p, q) at e in omega arith))
+      (λ q. rw (p, q)))
+      (λ p. absurd (let n : _≡_ {A = ℕ} 4 6 = rw p at e in omega arith))
 
 -- ---- advance: what is to be done at a time is what it finds there
 module _ (k : Caps) (s : State) (t : ℕ) (g : Good k s) (q : wakesBy k s t ≡ false) where
@@ -197,6 +193,10 @@ advance-early k s d j g e l =
     let w = (subst (λ (z : ℤ). Sleeps k s z) e (sleep-right k s g)) .0 j l in
     rw (none-fired k s (head s CLOCK + j) g w (k .timers), none-roused k s (head s CLOCK + j) g w (k .actors))
 
--- THE THEOREM: the same of the call, on sound buffers
-pub line-sleep : (z : ℤ) (w p w′ p′ : List ℕ) → Meets (op next) w p (turn 6 0 0 z) w′ p′ → Holds (soundRule w p) → Sleeps (capsOf w) (viewOf w p) z
-line-sleep z w p w′ p′ m h = next-sleep (capsOf w) (viewOf w p) z (good-view w p h) (sym (line-answer next w p (turn 6 0 0 z) w′ p′ m h))
+-- THE THEOREM: a next that answers 6, on sound buffers, says beside it how long nothing is to be done, to the microsecond, or -1 where nothing ever is
+pub line-sleep : (w p : List ℕ) (r : Answer) (w′ p′ : List ℕ) → Meets (op next) w p r w′ p′ → Holds (soundRule w p) → number r ≡ 6 → (t : ℤ) × (r ≡ turn 6 0 0 t) × Sleeps (capsOf w) (viewOf w p) t
+line-sleep w p r w′ p′ m h n =
+    let k = capsOf w in
+    let s = viewOf w p in
+    let e = line-answer next w p r w′ p′ m h in
+    (sleep k s, e ∙ next-idle k s (ap number (sym e) ∙ n), sleep-right k s (good-view w p h))
