@@ -1,6 +1,6 @@
 -- In words of the reckoning: after an exit nothing of the ended actor is left. Assumes nothing.
 use Prim.Native.Nat.{ℕ, zero, suc, _-_, _%_, _≤_}
-use mathlib.Core.Path.{_≡_, refl, sym, ap, ap₂, subst, _∙_}
+use mathlib.Core.Path.{_≡_, refl, sym, ap₂, subst, _∙_}
 use mathlib.Core.Bool.{Bool, true, false, not, _&&_, _||_, and-false}
 use mathlib.Core.List.{List, [], _∷_, _++_, map}
 use lib.ListN.{take}
@@ -24,7 +24,7 @@ use Rattle.rules.specs.Run.{sayEnded}
 use Rattle.rules.proofs.Good.{Good}
 use Rattle.rules.proofs.LedgerLaws.{running-is, runner-alive, some-map, some-no}
 use Rattle.rules.proofs.TiesAgree.{eye-used, linked-same, up-id}
-use Rattle.rules.proofs.NoticeLaws.{those-none-left}
+use Rattle.rules.proofs.NoticeLaws.{some-those, those-none-left}
 use Rattle.rules.proofs.ExitLaws.{link-found}
 use Rattle.rules.proofs.ExitAgrees.{linkedTo}
 
@@ -41,12 +41,6 @@ module _ {A : Type 0} (p : A → Bool) where
   unfolding some
   some-both [] ys = refl
   some-both (x ∷ xs) ys = split (p x) (λ q. rw q) (λ q. rw q (some-both xs ys))
-
-  -- one of those that pass another test
-  some-those : (q : A → Bool) (xs : List A) → some p (those q xs) ≡ some (λ x. q x && p x) xs
-  unfolding some those
-  some-those q [] = refl
-  some-those q (x ∷ xs) = split (q x) (λ r. rw r (ap (λ (b : Bool). p x || b) (some-those q xs))) (λ r. rw r (some-those q xs))
 
   -- none of those that pass another test, where none passes
   none-those : (q : A → Bool) (xs : List A) → some p xs ≡ false → some p (those q xs) ≡ false

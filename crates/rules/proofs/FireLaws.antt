@@ -3,7 +3,7 @@ use Prim.Native.Nat.{ℕ, zero, suc, _+_, _-_, _*_, _%_, _≤_, _<_, min}
 use native.Mathlib.Omega.{arith}
 use mathlib.Core.Path.{_≡_, refl, sym, ap, ap₂, subst, _∙_}
 use mathlib.Core.Logic.{_⊎_, inl, inr, ⊎-elim}
-use mathlib.Core.Bool.{Bool, true, false, cond, not, _&&_, _||_}
+use mathlib.Core.Bool.{Bool, true, false, cond, not, _&&_}
 use mathlib.Core.List.{List, [], _∷_, map}
 use lib.ListN.{length, getD, length-append}
 use lib.Dec.{eqb, leb, ltb}
@@ -15,6 +15,7 @@ use Rattle.ledger.specs.Reckon.{dueNow, endTimers, firedTimers, firing, firings
 use Rattle.ledger.specs.Room.{messagesLeft}
 use Rattle.pools.specs.Pool.{occurs}
 use Rattle.pools.proofs.BoolLaws.{split, true-false, and-left, and-right, and-true}
+use Rattle.rules.proofs.NoticeLaws.{some-those}
 use Rattle.rules.proofs.PageLaws.{order-out}
 
 -- ---- those of a list, counted
@@ -40,7 +41,7 @@ module _ {A : Type 0} where
   none-there (x ∷ xs) e = absurd (omega arith)
 
   -- the first that passes, if there is one
-  first-either : (p : A → Bool) (xs : List A) → (first p xs ≡ []) ⊎ ((x : A) × (first p xs ≡ x ∷ []))
+  pub first-either : (p : A → Bool) (xs : List A) → (first p xs ≡ []) ⊎ ((x : A) × (first p xs ≡ x ∷ []))
   unfolding first
   first-either p [] = inl refl
   first-either p (x ∷ xs) = split (p x) (λ q. inr (x, rw q)) (λ q. rw q (first-either p xs))
@@ -117,12 +118,6 @@ redue-id clock me id (u ∷ ts) =
     (λ q. split (eqb (u .id) id) (λ d. rw (q, d) (ap suc (redue-id clock me id ts))) (λ d. rw (q, d) (redue-id clock me id ts)))
     (λ q. split (eqb (u .id) id) (λ d. rw (q, d) (ap suc (redue-id clock me id ts))) (λ d. rw (q, d) (redue-id clock me id ts)))
 
--- one of those that pass another test
-some-among : {A : Type 0} (p q : A → Bool) (xs : List A) → some (λ x. q x && p x) xs ≡ some p (those q xs)
-unfolding some those
-some-among p q [] = refl
-some-among p q (x ∷ xs) = split (q x) (λ r. rw r (ap (λ (b : Bool). p x || b) (some-among p q xs))) (λ r. rw r (some-among p q xs))
-
 -- the lesser of two numbers, each one up
 lesser : (a b : ℕ) → min (suc a) (suc b) ≡ suc (min a b)
 lesser a b = omega arith
@@ -178,7 +173,7 @@ module _ (l : Ledger) (once : Once l) (t : Timer) (is : soonest (l .time .clock)
   due-fired =
       split (eqb (t .interval) 0)
       (λ q. rw q (order-out (λ u. leb (u .due) (l .time .clock)) (λ u. not (eqb (u .id) (t .id))) (l .time .timers)))
-      (λ q. rw q (redue-due (l .time .clock) (t .id) (l .time .timers) (some-among (λ u. eqb (u .interval) 0) (isId (t .id)) (l .time .timers) ∙ ap (some (λ u. eqb (u .interval) 0)) alone ∙ rw q)))
+      (λ q. rw q (redue-due (l .time .clock) (t .id) (l .time .timers) (sym (some-those (λ u. eqb (u .interval) 0) (isId (t .id)) (l .time .timers)) ∙ ap (some (λ u. eqb (u .interval) 0)) alone ∙ rw q)))
 
   -- one due timer less
   pub due-less : length (dueNow l) ≡ suc (length (dueNow (firing (t ∷ []) l)))
@@ -245,13 +240,13 @@ module _ {A : Type 0} where
       split (p x) (λ a. rw (h x a)) (λ a. split (q x) (λ b. rw b) (λ b. rw b (some-then p q xs h (rw a at e))))
 
   -- where none passes there are none that pass
-  none-those : (p : A → Bool) (xs : List A) → some p xs ≡ false → those p xs ≡ []
+  none-pass : (p : A → Bool) (xs : List A) → some p xs ≡ false → those p xs ≡ []
   unfolding some those
-  none-those p [] e = refl
-  none-those p (x ∷ xs) e = split (p x) (λ a. true-false true refl (rw a at e)) (λ a. rw a (none-those p xs (rw a at e)))
+  none-pass p [] e = refl
+  none-pass p (x ∷ xs) e = split (p x) (λ a. true-false true refl (rw a at e)) (λ a. rw a (none-pass p xs (rw a at e)))
 
   -- where there is no first none passes
-  none-first : (p : A → Bool) (xs : List A) → first p xs ≡ [] → some p xs ≡ false
+  pub none-first : (p : A → Bool) (xs : List A) → first p xs ≡ [] → some p xs ≡ false
   unfolding first some
   none-first p [] e = refl
   none-first p (x ∷ xs) e = split (p x) (λ a. absurd (omega (arith, ap length (rw a at e)))) (λ a. rw a (none-first p xs (rw a at e)))
@@ -316,7 +311,7 @@ module _ (clock : ℕ) where
   none-soonest ts e =
       split (some (λ t. leb (t .due) clock) ts)
       (λ q. let r = early-there ts q in true-false (some (ofAll ts) ts) (early-some (r .0) ts (r .1)) (none-first (ofAll ts) ts e))
-      (none-those (λ t. leb (t .due) clock) ts)
+      (none-pass (λ t. leb (t .due) clock) ts)
 
 -- THE LAW: of the timers that are due as many fire as are asked for
 pub fired-all : (n : ℕ) (l : Ledger) → Once l → n ≤ length (dueNow l) → length (firedTimers n l) ≡ n

@@ -143,3 +143,9 @@ module _ {A : Type 0} where
   unfolding those some
   those-none-left p [] = refl
   those-none-left p (x ∷ xs) = split (p x) (λ r. rw r (those-none-left p xs)) (λ r. rw (r, r) (those-none-left p xs))
+
+  -- one of those that pass another test
+  pub some-those : (p q : A → Bool) (xs : List A) → some p (those q xs) ≡ some (λ x. q x && p x) xs
+  unfolding some those
+  some-those p q [] = refl
+  some-those p q (x ∷ xs) = split (q x) (λ r. rw r (ap (λ (b : Bool). p x || b) (some-those p q xs))) (λ r. rw r (some-those p q xs))
