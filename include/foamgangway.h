@@ -16,6 +16,7 @@
 #ifndef FOAMGANGWAY_H
 #define FOAMGANGWAY_H
 
+#include <stdbool.h>
 #include <stddef.h>
 #include <stdint.h>
 
@@ -89,6 +90,9 @@ enum fg_number {
 /* Bytes of the records in runtime messages. */
 #define FG_TICK_BYTES 8
 #define FG_EXIT_BYTES 14
+
+/* Bytes of the longest record of a trace. */
+#define FG_TRACE_MOST 288
 
 /* How long the two buffers must be; they may be longer, and what is past the needed part is never changed.
  * As constants, for static arrays: */
@@ -194,6 +198,54 @@ struct fg_exit_record fg_read_exit(const uint8_t *bytes, size_t len);
 
 /* The word of an exit reason: app, normal, crash, killed or overflow. */
 struct fg_word fg_reason_word(uint16_t reason);
+
+/*
+ * Traces (docs/TRACE.md): a call and its answer as a record, to be stored and judged later.
+ *
+ * Each function below writes the record of the call of its name to the front of `out` and answers how many
+ * bytes that are, at most FG_TRACE_MOST; 0, and nothing has changed, where `out` is too short. It takes the
+ * call's own arguments, without the buffers, then the fields of its answer. It needs no runtime, and changes
+ * none. foamgangway_trace.h makes a call and hands its record on, in one line.
+ */
+#define FG_RECORD uint8_t *out, size_t out_len
+
+/* A start's record has the lengths of both buffers too: words of the table, bytes of the payload area. */
+size_t fg_trace_start(FG_RECORD, uint64_t words, uint64_t bytes, uint64_t actors, uint64_t mailboxes,
+                      uint64_t data, uint64_t links, uint64_t monitors, uint64_t timers, uint64_t no);
+
+size_t fg_trace_spawn(FG_RECORD, uint64_t priority, uint64_t no, uint64_t id);
+size_t fg_trace_next(FG_RECORD, uint64_t no, uint64_t id, uint64_t reason, int64_t sleep);
+size_t fg_trace_yield(FG_RECORD, uint64_t no);
+
+/* A payload over FG_MAX_PAYLOAD bytes is recorded by its length alone, and not read. */
+size_t fg_trace_notify(FG_RECORD, uint64_t target, uint64_t tag, const uint8_t *payload, size_t payload_len,
+                       uint64_t no);
+
+size_t fg_trace_receive(FG_RECORD, uint64_t sender, uint64_t class_, uint64_t tag, int64_t wait, uint64_t no,
+                        uint64_t its_sender, uint64_t its_class, uint64_t its_tag, uint64_t length);
+
+/* The payload in hand as the caller saw it, where fg_shown said that it lies; of length 0 without one. */
+size_t fg_trace_show(FG_RECORD, const uint8_t *part, size_t part_len);
+
+size_t fg_trace_shown(FG_RECORD, uint64_t no, uint64_t offset, uint64_t length);
+size_t fg_trace_after(FG_RECORD, uint64_t delay, uint64_t no, uint64_t id);
+size_t fg_trace_every(FG_RECORD, uint64_t interval, uint64_t no, uint64_t id);
+size_t fg_trace_cancel(FG_RECORD, uint64_t timer, uint64_t no);
+size_t fg_trace_link(FG_RECORD, uint64_t partner, uint64_t no);
+size_t fg_trace_unlink(FG_RECORD, uint64_t partner, uint64_t no);
+size_t fg_trace_monitor(FG_RECORD, uint64_t target, uint64_t no, uint64_t id);
+size_t fg_trace_demonitor(FG_RECORD, uint64_t monitor, uint64_t no);
+size_t fg_trace_exit(FG_RECORD, uint64_t reason, uint64_t no, uint64_t sent, uint64_t lost);
+size_t fg_trace_advance(FG_RECORD, uint64_t us, uint64_t no, uint64_t fired);
+
+/* The six free counts in the order of struct fg_counts. */
+size_t fg_trace_report(FG_RECORD, uint64_t no, uint64_t actors, uint64_t mailboxes, uint64_t data,
+                       uint64_t links, uint64_t monitors, uint64_t timers);
+
+/* Judges record number n of a trace, counted from 0: true where it is right on these buffers, and its call is
+ * then made on them. Where it is not, nothing after it can be judged, and the buffers may have changed. 4,096
+ * words and 65,536 bytes are long enough for every trace. */
+bool fg_replay(FG_BUFFERS, uint64_t n, const uint8_t *record, size_t record_len);
 
 #ifdef __cplusplus
 }

@@ -7,12 +7,14 @@
  *
  * The run shows the accident that ids with ages prevent: the watchdog sends a stop message to a heater
  * that has already ended, while the next heater works in the same slot. The message is refused.
+ *
+ * With a file's name as its argument it also writes a trace of its calls there, for ./replay and ./autopsy.
  */
 #include <inttypes.h>
 #include <stdio.h>
 #include <stdlib.h>
 
-#include "foamgangway.h"
+#include "foamgangway_trace.h"
 
 enum { ACTORS = 4, MAILBOXES = 16, DATA = 16, LINKS = 4, MONITORS = 4, TIMERS = 4 };
 enum { TAG_READING = 1, TAG_STOP = 2 };
@@ -21,8 +23,12 @@ enum { TICK_US = 100000, PUMP_FAILS_US = 350000, PATIENCE_MS = 250 };
 static uint64_t table[FG_WORDS(ACTORS, MAILBOXES, DATA, LINKS, MONITORS, TIMERS)];
 static uint8_t area[FG_BYTES(DATA)];
 
-/* Both buffers, as every call takes them. */
-#define BOX table, sizeof table / sizeof table[0], area, sizeof area
+/* Where the records of the calls go: nowhere, until a file is opened. */
+static struct fg_tracer tracer;
+
+/* Both buffers, as every call takes them, and what every traced call takes. */
+#define BUFFERS table, sizeof table / sizeof table[0], area, sizeof area
+#define BOX &tracer, BUFFERS
 
 struct track {
     const char *name;
@@ -62,7 +68,7 @@ static void expect(uint64_t no, const char *call)
 /* Puts a track into the runtime, at its priority. */
 static void begin(struct track *track, uint64_t priority)
 {
-    struct fg_made made = fg_spawn(BOX, priority);
+    struct fg_made made = fg_traced_spawn(BOX, priority);
     expect(made.no, "spawn");
     track->id = made.id;
     track->begun = 0;
@@ -74,7 +80,7 @@ static void begin(struct track *track, uint64_t priority)
 /* Ends the running track and says who was told. */
 static void end(struct track *self, uint64_t reason)
 {
-    struct fg_ended ended = fg_exit(BOX, reason);
+    struct fg_ended ended = fg_traced_exit(BOX, reason);
     expect(ended.no, "exit");
     say(self);
     printf("ended, notices sent %" PRIu64 ", lost %" PRIu64 "\n", ended.sent, ended.lost);
@@ -83,13 +89,13 @@ static void end(struct track *self, uint64_t reason)
 /* Takes any message; FG_WAITING means that the track now waits for the next. */
 static struct fg_received receive_any(void)
 {
-    return fg_receive(BOX, FG_ANY_SENDER, FG_ANY_CLASS, FG_ANY_TAG, FG_WAIT_FOREVER);
+    return fg_traced_receive(BOX, FG_ANY_SENDER, FG_ANY_CLASS, FG_ANY_TAG, FG_WAIT_FOREVER);
 }
 
 /* The payload in hand, where it lies in the area. */
 static const uint8_t *payload_in_hand(size_t *len)
 {
-    struct fg_place place = fg_shown(BOX);
+    struct fg_place place = fg_traced_shown(BOX);
     expect(place.no, "shown");
     *len = (size_t)place.length;
     return area + place.offset;
@@ -128,7 +134,7 @@ static void print_notice(struct fg_exit_record notice)
 
 static void heater_begin(struct track *self)
 {
-    struct fg_made timer = fg_every(BOX, TICK_US);
+    struct fg_made timer = fg_traced_every(BOX, TICK_US);
     expect(timer.no, "every");
     self->timer = timer.id;
     self->begun = 1;
@@ -141,7 +147,7 @@ static void heater_tick(struct track *self)
     reading[0] = (uint8_t)self->degrees;
     say(self);
     printf("timer %" PRIu32 " ticks, %u degrees\n", tick_in_hand(), self->degrees);
-    expect(fg_notify(BOX, watchdog.id, TAG_READING, reading, sizeof reading), "notify");
+    expect(fg_traced_notify(BOX, watchdog.id, TAG_READING, reading, sizeof reading), "notify");
 }
 
 /* Without its pump a heater must not go on. */
@@ -149,7 +155,7 @@ static void heater_loses_partner(struct track *self)
 {
     say(self);
     print_notice(exit_in_hand());
-    expect(fg_cancel(BOX, self->timer), "cancel");
+    expect(fg_traced_cancel(BOX, self->timer), "cancel");
     end(self, FG_EXIT_NORMAL);
 }
 
@@ -181,9 +187,9 @@ static void heater_turn(struct track *self, uint64_t why)
 
 static void pump_begin(struct track *self)
 {
-    struct fg_made timer = fg_after(BOX, PUMP_FAILS_US);
+    struct fg_made timer = fg_traced_after(BOX, PUMP_FAILS_US);
     expect(timer.no, "after");
-    expect(fg_link(BOX, heater.id), "link");
+    expect(fg_traced_link(BOX, heater.id), "link");
     self->timer = timer.id;
     self->begun = 1;
 }
@@ -210,7 +216,7 @@ static const uint8_t nothing[1];
 
 static void watch(struct track *self, const struct track *other)
 {
-    struct fg_made made = fg_monitor(BOX, other->id);
+    struct fg_made made = fg_traced_monitor(BOX, other->id);
     expect(made.no, "monitor");
     say(self);
     printf("watches %" PRIu64 " by monitor %" PRIu64 "\n", other->id, made.id);
@@ -227,11 +233,11 @@ static void watchdog_begin(struct track *self)
 /* The accident: the watchdog has kept the id of the heater that ended. */
 static void stop_heaters(struct track *self)
 {
-    uint64_t no = fg_notify(BOX, first_heater, TAG_STOP, nothing, 0);
+    uint64_t no = fg_traced_notify(BOX, first_heater, TAG_STOP, nothing, 0);
     say(self);
     printf("stop to %" PRIu64 " answers %" PRIu64 "%s\n", first_heater, no,
            no == FG_UNKNOWN ? ", that track has ended" : "");
-    no = fg_notify(BOX, heater.id, TAG_STOP, nothing, 0);
+    no = fg_traced_notify(BOX, heater.id, TAG_STOP, nothing, 0);
     say(self);
     printf("stop to %" PRIu64 " answers %" PRIu64 "\n", heater.id, no);
 }
@@ -263,7 +269,7 @@ static struct fg_received watchdog_receive(void)
 {
     if (heater.id == first_heater)
         return receive_any();
-    return fg_receive(BOX, FG_ANY_SENDER, FG_CLASS_EXIT, FG_ANY_TAG, PATIENCE_MS);
+    return fg_traced_receive(BOX, FG_ANY_SENDER, FG_CLASS_EXIT, FG_ANY_TAG, PATIENCE_MS);
 }
 
 static void watchdog_turn(struct track *self, uint64_t why)
@@ -300,7 +306,7 @@ static struct track *track_of(uint64_t id)
 /* A board would sleep here. */
 static void sleep_us(int64_t us)
 {
-    struct fg_advanced advanced = fg_advance(BOX, (uint64_t)us);
+    struct fg_advanced advanced = fg_traced_advance(BOX, (uint64_t)us);
     expect(advanced.no, "advance");
     now_us += (uint64_t)us;
 }
@@ -308,7 +314,7 @@ static void sleep_us(int64_t us)
 static void run(void)
 {
     for (;;) {
-        struct fg_turn turn = fg_next(BOX);
+        struct fg_turn turn = fg_traced_next(BOX);
         if (turn.no == FG_WAITING && turn.sleep < 0)
             return;
         if (turn.no == FG_WAITING) {
@@ -323,7 +329,7 @@ static void run(void)
 
 static void print_free(void)
 {
-    struct fg_counts report = fg_report(BOX);
+    struct fg_counts report = fg_traced_report(BOX);
     expect(report.no, "report");
     printf("free:");
     for (int i = 0; i < 6; i++)
@@ -331,13 +337,36 @@ static void print_free(void)
     printf("\n");
 }
 
-int main(void)
+/* ---- The trace. ---- */
+
+/* A board would write to flash here. Each record is written at once, so that a crash loses none. */
+static void store(void *file, const uint8_t *record, size_t len)
 {
+    if (fwrite(record, 1, len, file) == len && fflush(file) == 0)
+        return;
+    perror("the trace");
+    exit(EXIT_FAILURE);
+}
+
+static void open_trace(const char *name)
+{
+    FILE *file = fopen(name, "wb");
+    if (file == NULL) {
+        perror(name);
+        exit(EXIT_FAILURE);
+    }
+    tracer = (struct fg_tracer){ .sink = store, .ctx = file };
+}
+
+int main(int count, char **words)
+{
+    if (count > 1)
+        open_trace(words[1]);
     if (sizeof table / sizeof table[0] < fg_words_needed(ACTORS, MAILBOXES, DATA, LINKS, MONITORS, TIMERS) ||
         sizeof area < fg_bytes_needed(DATA))
         return EXIT_FAILURE;
-    printf("before the start report answers %" PRIu64 "\n", fg_report(BOX).no);
-    expect(fg_start(BOX, ACTORS, MAILBOXES, DATA, LINKS, MONITORS, TIMERS), "start");
+    printf("before the start report answers %" PRIu64 "\n", fg_report(BUFFERS).no);
+    expect(fg_traced_start(BOX, ACTORS, MAILBOXES, DATA, LINKS, MONITORS, TIMERS), "start");
     begin(&watchdog, 0);
     begin(&heater, 1);
     begin(&pump, 1);

@@ -1,5 +1,5 @@
 //! Writes the columns of docs/LAYOUT.md as constants, for layout.rs.
-//! FG_LIB names the folder of libruntime.a and librecords.a. Without it the test runs against a
+//! FG_LIB names the folder of the archives of runtime, records, trace and judge. Without it the test runs against a
 //! stand-in made of the model itself (`cfg(self_test)`), which tests the test.
 
 use numbers::document::Document;
@@ -29,9 +29,9 @@ fn columns(document: &Document) -> String {
     )
 }
 
-/// Links both archives, the runtime's first: it may hold the functions of records too.
+/// Links the archives, the runtime's first: it may hold the functions of records too.
 fn link(folder: &str) {
-    for library in ["runtime", "records"] {
+    for library in ["runtime", "records", "trace", "judge"] {
         let archive = format!("{folder}/lib{library}.a");
         println!("cargo:rerun-if-changed={archive}");
         println!("cargo:rustc-link-arg-bins={archive}");

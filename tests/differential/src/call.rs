@@ -4,7 +4,8 @@ use crate::calls::calls;
 use crate::ffi;
 use crate::layout::table_suffices;
 use model::limits::Capacities;
-use model::{Advanced, Ended, Made, Model, Received, Report, Shown, Turn};
+use model::trace::Field;
+use model::{Advanced, Ended, Made, Model, Numbers, Received, Report, Shown, Turn};
 
 /// Makes the answers as values: what a call answers, wrapped and taken out again.
 macro_rules! answers {
@@ -18,6 +19,12 @@ macro_rules! answers {
             pub fn no(&self) -> u64 {
                 match self {
                     $(Answer::$name(answer) => $no(answer),)*
+                }
+            }
+
+            pub fn numbers(&self) -> Vec<u64> {
+                match self {
+                    $(Answer::$name(answer) => answer.numbers(),)*
                 }
             }
         }
@@ -72,6 +79,15 @@ macro_rules! call_values {
                     Call::Start(_) => "start",
                     $(Call::$call { .. } => &stringify!($c)[3..],)*
                     $(Call::$sent { .. } => &stringify!($sent_c)[3..],)*
+                }
+            }
+
+            /// Its arguments as a trace records them; a start's without the lengths of its buffers.
+            pub fn fields(&self) -> Vec<Field> {
+                match self {
+                    Call::Start(caps) => caps.map(Field::Number).to_vec(),
+                    $(Call::$call $(($($arg),*))? => vec![$($(Field::Number(*$arg as u64)),*)?],)*
+                    $(Call::$sent($($with,)* payload) => vec![$(Field::Number(*$with as u64),)* Field::payload(payload)],)*
                 }
             }
 

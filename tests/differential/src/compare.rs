@@ -2,6 +2,7 @@
 
 use crate::call::{Answer, Call};
 use crate::layout;
+use crate::traced;
 use model::answers::is_refusal;
 use model::limits::bytes_needed;
 use model::{Model, State};
@@ -47,6 +48,8 @@ pub fn make(call: &Call, buffers: &mut Buffers, lengths: (usize, usize), model: 
     if answer != expected {
         return Err(format!("library: {answer:?}\nmodel:   {expected:?}"));
     }
+    traced::compare_writer(&traced::record(call, &answer, lengths))
+        .map_err(|what| format!("{answer:?}, but {what}"))?;
     // Refusals, calls that only read, an idle next, linking a linked pair: not a bit changes.
     if is_refusal(answer.no()) || call.only_reads() || *model == model_before {
         unchanged(&before, buffers, (0, 0)).map_err(|what| format!("{answer:?}, but {what}"))?;

@@ -7,6 +7,10 @@ use std::collections::BTreeMap;
 pub struct Counts {
     pub calls: u64,
     pub sessions: u64,
+    /// Records of traces that were replayed.
+    pub records: u64,
+    changed_right: u64,
+    changed_wrong: u64,
     answers: BTreeMap<&'static str, [u64; 8]>,
     listed: BTreeMap<&'static str, u64>,
     still_sound: u64,
@@ -48,6 +52,15 @@ impl Counts {
         }
     }
 
+    /// A changed record, which library and model judged alike.
+    pub fn count_changed(&mut self, right: bool) {
+        if right {
+            self.changed_right += 1;
+        } else {
+            self.changed_wrong += 1;
+        }
+    }
+
     pub fn print(&self) {
         println!("{:10}{:>8}{:>8}{:>8}{:>8}{:>8}{:>8}{:>8}{:>8}", "answers", 0, 1, 2, 3, 4, 5, 6, 7);
         for (call, answers) in &self.answers {
@@ -59,6 +72,10 @@ impl Counts {
         let listed: u64 = self.listed.values().sum();
         println!("damage of {} listed kinds {listed}, all refused with 7", self.listed.len());
         println!("damage anywhere: not sound {}, still sound {}", self.not_sound, self.still_sound);
+        println!(
+            "records replayed {}; changed ones: wrong {}, still right {}",
+            self.records, self.changed_wrong, self.changed_right
+        );
         println!("sessions: {}", self.sessions);
     }
 }

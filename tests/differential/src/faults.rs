@@ -8,7 +8,7 @@ use model::state::{Activity, Reason, State};
 use model::{Advanced, Ended, Model};
 use std::sync::OnceLock;
 
-pub const NAMES: [&str; 21] = [
+pub const NAMES: [&str; 26] = [
     "all-unsound",
     "next-names-slot-0",
     "notify-stores-nothing",
@@ -30,6 +30,11 @@ pub const NAMES: [&str; 21] = [
     "spare-words-not-tested",
     "free-bytes-not-tested",
     "start-wants-a-word-more",
+    "record-written-as-far-as-it-fits",
+    "record-loses-the-sign",
+    "record-keeps-long-payloads",
+    "replay-looks-at-the-first-number-alone",
+    "replay-begins-with-any-start",
 ];
 
 fn chosen() -> &'static str {

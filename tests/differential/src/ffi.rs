@@ -2,6 +2,8 @@
 //! A slice passes as a pointer, then a length. Rust's borrows keep the slices of one call apart.
 
 use crate::calls::calls;
+use crate::writers::{recorded, writers};
+use model::trace::{Field, Record};
 use model::{Advanced, Ended, ExitRead, Made, ReasonWord, Received, Report, Shown, TickRead, Turn};
 
 /// Declares the functions of the calls in C, and makes the safe function of each: pointer and length of both buffers, then its numbers,
@@ -42,6 +44,56 @@ macro_rules! on_buffers {
 
 calls!(on_buffers);
 
+/// Declares the writers of records in C, and makes one safe function of them all.
+macro_rules! record_writers {
+    (
+        numbers { $($c:ident($($arg:ident: $ty:ty),*);)* }
+        payloads { $($sent_c:ident($($before:ident: $kind:ty),*; $($after:ident: $rest:ty),*);)* }
+    ) => {
+        mod raw_writers {
+            extern "C" {
+                $(pub fn $c(out: *mut u8, out_len: usize $(, $arg: $ty)*) -> usize;)*
+                $(pub fn $sent_c(
+                    out: *mut u8, out_len: usize, $($before: $kind,)* part: *const u8, part_len: usize $(, $after: $rest)*
+                ) -> usize;)*
+            }
+        }
+
+        /// Writes a record by the library's writer of its kind; a payload that is recorded by its length alone is lent as nines.
+        pub fn write_record(record: &Record, out: &mut [u8]) -> usize {
+            let (numbers, payload) = parts(record);
+            let mut numbers = numbers.into_iter();
+            let mut number = || numbers.next().expect("a record has as many numbers as its writer");
+            let (to, len) = (out.as_mut_ptr(), out.len());
+            match record.shape.name {
+                // SAFETY: pointers and lengths come from two live slices that do not overlap.
+                $(name if name == recorded!($c) => unsafe { raw_writers::$c(to, len $(, number() as $ty)*) },)*
+                $(name if name == recorded!($sent_c) => unsafe {
+                    raw_writers::$sent_c(
+                        to, len, $(number() as $kind,)* payload.as_ptr(), payload.len() $(, number() as $rest)*
+                    )
+                },)*
+                name => unreachable!("{name} has no writer"),
+            }
+        }
+    };
+}
+
+writers!(record_writers);
+
+/// The numbers of a record in their order, and its payload, empty where it has none.
+fn parts(record: &Record) -> (Vec<u64>, Vec<u8>) {
+    let (mut numbers, mut payload) = (Vec::new(), Vec::new());
+    for field in record.args.iter().chain(&record.answer) {
+        match field {
+            Field::Number(number) => numbers.push(*number),
+            Field::Bytes(bytes) => payload = bytes.clone(),
+            Field::Long(length) => payload = vec![9; *length as usize],
+        }
+    }
+    (numbers, payload)
+}
+
 /// Functions that are not calls on a runtime.
 mod others {
     use super::*;
@@ -65,6 +117,17 @@ mod others {
         pub fn fg_write_exit(out: *mut u8, len: usize, actor: u32, reason: u16, monitor: u32) -> u64;
         pub fn fg_read_exit(bytes: *const u8, len: usize) -> ExitRead;
         pub fn fg_reason_word(reason: u16) -> ReasonWord;
+
+        // C's bool is a byte; that it is 0 or 1 is tested here.
+        pub fn fg_replay(
+            t: *mut u64,
+            t_len: usize,
+            p: *mut u8,
+            p_len: usize,
+            n: u64,
+            record: *const u8,
+            record_len: usize,
+        ) -> u8;
     }
 }
 
@@ -92,4 +155,15 @@ pub fn read_exit(bytes: &[u8]) -> ExitRead {
 
 pub fn reason_word(reason: u16) -> ReasonWord {
     unsafe { others::fg_reason_word(reason) }
+}
+
+/// Whether record number n is right on these buffers; its call is then made on them.
+pub fn replay(t: &mut [u64], p: &mut [u8], n: u64, record: &[u8]) -> bool {
+    let (at, len) = (record.as_ptr(), record.len());
+    // SAFETY: pointers and lengths of three live slices that do not overlap.
+    match unsafe { others::fg_replay(t.as_mut_ptr(), t.len(), p.as_mut_ptr(), p.len(), n, at, len) } {
+        0 => false,
+        1 => true,
+        other => panic!("fg_replay answers {other}, which is no bool"),
+    }
 }

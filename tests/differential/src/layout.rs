@@ -38,7 +38,12 @@ pub fn words_needed(caps: &Capacities) -> u64 {
 
 /// Says whether a table of so many words is long enough for these capacities.
 pub fn table_suffices(words: usize, caps: &Capacities) -> bool {
-    in_range(caps) && words as u64 >= words_needed(caps)
+    suffices(words as u64, caps)
+}
+
+/// The same for a length as a trace carries it.
+pub fn suffices(words: u64, caps: &Capacities) -> bool {
+    in_range(caps) && words >= words_needed(caps)
 }
 
 /// The capacities that the buffers name, where they are in range and the buffers are long enough.

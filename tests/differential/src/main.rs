@@ -22,6 +22,10 @@ mod recorded;
 mod session;
 #[cfg(self_test)]
 mod stub;
+#[cfg(self_test)]
+mod trace_stub;
+mod traced;
+mod writers;
 
 use compare::Difference;
 use counts::Counts;
@@ -32,6 +36,8 @@ use std::time::{Duration, Instant};
 
 const SEED: u64 = 1;
 const CALLS: u64 = 400_000;
+/// One session in so many is traced.
+const TRACED: u64 = 10;
 
 struct Options {
     seed: u64,
@@ -39,7 +45,7 @@ struct Options {
     seconds: u64,
 }
 
-const USAGE: &str = "differential [SEED [CALLS [SECONDS]]]";
+const USAGE: &str = "differential [SEED [CALLS [SECONDS]]] | differential trace SEED RECORDS FILE";
 
 fn options() -> Result<Options, String> {
     let mut numbers = Vec::new();
@@ -62,10 +68,32 @@ fn run(options: &Options) -> Result<Counts, Difference> {
     examples::compare_examples()?;
     lengths::compare_lengths()?;
     recorded::compare_records(&mut random)?;
+    traced::compare_writers(&mut random)?;
     while counts.calls < options.calls && began.elapsed() < Duration::from_secs(options.seconds) {
-        Session::new(&mut random, &mut counts).run()?;
+        if counts.sessions % TRACED == 0 {
+            Session::traced(&mut random, &mut counts).run()?;
+        } else {
+            Session::new(&mut random, &mut counts).run()?;
+        }
     }
     Ok(counts)
+}
+
+/// With the words `trace SEED RECORDS FILE`: writes a trace of random calls, of so many records or somewhat more, and says what the verdict on
+/// it must be. A session's trace follows another's: each begins with a start.
+fn write_trace(words: &[String]) -> Result<(), String> {
+    let [seed, records, file] = words else { return Err(USAGE.to_string()) };
+    let number = |word: &String| word.parse::<u64>().map_err(|_| format!("not a number: {word}\n{USAGE}"));
+    let (mut random, records) = (Random::new(number(seed)?), number(records)?);
+    let (mut counts, mut bytes) = (Counts::default(), Vec::new());
+    while counts.records < records {
+        let mut session = Session::traced(&mut random, &mut counts);
+        session.run().map_err(|difference| difference.to_string())?;
+        bytes.extend(session.trace.into_iter().flat_map(|trace| trace.bytes));
+    }
+    std::fs::write(file, bytes).map_err(|what| format!("{file}: {what}"))?;
+    println!("ok {}", counts.records);
+    Ok(())
 }
 
 /// With the word `faults`, and no archive linked: names what FG_FAULT can put into the stand-in.
@@ -86,6 +114,16 @@ fn lists_faults() -> bool {
 fn main() -> ExitCode {
     if lists_faults() {
         return ExitCode::SUCCESS;
+    }
+    let words: Vec<String> = std::env::args().skip(1).collect();
+    if words.first().is_some_and(|word| word == "trace") {
+        return match write_trace(&words[1..]) {
+            Ok(()) => ExitCode::SUCCESS,
+            Err(what) => {
+                println!("{what}");
+                ExitCode::FAILURE
+            }
+        };
     }
     let options = match options() {
         Ok(options) => options,

@@ -1,4 +1,5 @@
-//! One session: buffers, a start, and a run of calls with damage from time to time.
+//! One session: buffers, a start, and a run of calls with damage from time to time; or, in a traced session, without damage, and
+//! with a trace that the library judges.
 
 use crate::call::{Answer, Call};
 use crate::compare::{make, Buffers, Difference};
@@ -7,6 +8,7 @@ use crate::damage::{self, Damage};
 use crate::generate::{self, Generator, Mood, Seen};
 use crate::layout::{self, words_needed, AGE, CLOCK, MONITOR_AGE, TIMER_AGE};
 use crate::random::Random;
+use crate::traced::{self, Trace};
 use model::limits::*;
 use model::state::State;
 use model::{Model, DONE, UNSOUND};
@@ -21,6 +23,8 @@ pub struct Session<'a> {
     actors: Seen,
     timers: Seen,
     monitors: Seen,
+    /// In a traced session: its calls so far.
+    pub trace: Option<Trace>,
 }
 
 impl<'a> Session<'a> {
@@ -32,7 +36,13 @@ impl<'a> Session<'a> {
         let mood = generate::mood(random);
         counts.sessions += 1;
         let (actors, timers, monitors) = (Seen::default(), Seen::default(), Seen::default());
-        Session { random, counts, buffers, model, first, mood, actors, timers, monitors }
+        Session { random, counts, buffers, model, first, mood, actors, timers, monitors, trace: None }
+    }
+
+    /// A session without damage, so that nobody but its calls writes to its buffers.
+    pub fn traced(random: &'a mut Random, counts: &'a mut Counts) -> Self {
+        let fill = random.pick(&[0, 0xFF, 1]);
+        Session { trace: Some(Trace::new(fill)), ..Session::new(random, counts) }
     }
 
     pub fn run(&mut self) -> Result<(), Difference> {
@@ -41,9 +51,13 @@ impl<'a> Session<'a> {
         }
         self.compare(&Call::Start(self.first))?;
         for _ in 0..self.random.between(100, 1_500) {
-            self.step()?;
+            if self.trace.is_some() {
+                self.traced_step()?;
+            } else {
+                self.step()?;
+            }
         }
-        Ok(())
+        self.end_trace()
     }
 
     fn step(&mut self) -> Result<(), Difference> {
@@ -57,6 +71,42 @@ impl<'a> Session<'a> {
             }
             _ => self.plain(),
         }
+    }
+
+    fn traced_step(&mut self) -> Result<(), Difference> {
+        if self.random.once_in(100) {
+            return self.start_with_other_lengths();
+        }
+        self.plain()
+    }
+
+    /// A start on the first part of the buffers, refused or not.
+    fn start_with_other_lengths(&mut self) -> Result<(), Difference> {
+        let (call, lengths) = (Call::Start(self.first), self.shorter());
+        let made = make(&call, &mut self.buffers, lengths, &mut self.model);
+        let answer = self.counted(&call, made, " on a part of the buffers")?;
+        self.record(&call, &answer, lengths)
+    }
+
+    /// Adds a call to the trace, where there is one; after the place of a payload, the payload too.
+    fn record(&mut self, call: &Call, answer: &Answer, lengths: (usize, usize)) -> Result<(), Difference> {
+        let Some(trace) = &mut self.trace else { return Ok(()) };
+        let mut records = vec![traced::record(call, answer, lengths)];
+        if let Answer::Shown(place) = answer {
+            records.push(traced::shown(&self.buffers.bytes[place.offset as usize..][..place.length as usize]));
+        }
+        for record in records {
+            let number = self.counts.calls;
+            let wrong = |what| Difference { number, call: format!("{record:?}"), what };
+            trace.add(self.random, self.counts, &record).map_err(wrong)?;
+        }
+        Ok(())
+    }
+
+    fn end_trace(&self) -> Result<(), Difference> {
+        let Some(trace) = &self.trace else { return Ok(()) };
+        let wrong = |what| Difference { number: self.counts.calls, call: "the end of a trace".to_string(), what };
+        trace.compare_end().map_err(wrong)
     }
 
     fn lengths(&self) -> (usize, usize) {
@@ -96,7 +146,7 @@ impl<'a> Session<'a> {
         let made = make(call, &mut self.buffers, lengths, &mut self.model);
         let answer = self.counted(call, made, "")?;
         self.remember(call, &answer);
-        Ok(())
+        self.record(call, &answer, lengths)
     }
 
     /// Counts a call that agreed, or says where and what differs.

@@ -10,3 +10,5 @@ mod faults;
 mod ffi;
 mod layout;
 mod stub;
+mod trace_stub;
+mod writers;

@@ -33,7 +33,7 @@ unsafe fn on_buffers(t: *mut u64, t_len: usize, p: *mut u8, p_len: usize, call: 
     faults::answer(answer)
 }
 
-fn store(m: &Model, words: &mut [u64], bytes: &mut [u8]) {
+pub fn store(m: &Model, words: &mut [u64], bytes: &mut [u8]) {
     if let Some(state) = &m.state {
         encode::encode(state, words, bytes);
     }

@@ -93,3 +93,56 @@ pub struct ReasonWord {
     pub bytes: [u8; 8],
     pub len: usize,
 }
+
+/// The numbers of an answer, in the order of its struct; a signed one as two's complement.
+pub trait Numbers {
+    fn numbers(&self) -> Vec<u64>;
+}
+
+impl Numbers for u64 {
+    fn numbers(&self) -> Vec<u64> {
+        vec![*self]
+    }
+}
+
+impl Numbers for Made {
+    fn numbers(&self) -> Vec<u64> {
+        vec![self.no, self.id]
+    }
+}
+
+impl Numbers for Turn {
+    fn numbers(&self) -> Vec<u64> {
+        vec![self.no, self.id, self.reason, self.sleep as u64]
+    }
+}
+
+impl Numbers for Received {
+    fn numbers(&self) -> Vec<u64> {
+        vec![self.no, self.sender, self.class, self.tag, self.length]
+    }
+}
+
+impl Numbers for Shown {
+    fn numbers(&self) -> Vec<u64> {
+        vec![self.no, self.offset, self.length]
+    }
+}
+
+impl Numbers for Ended {
+    fn numbers(&self) -> Vec<u64> {
+        vec![self.no, self.sent, self.lost]
+    }
+}
+
+impl Numbers for Advanced {
+    fn numbers(&self) -> Vec<u64> {
+        vec![self.no, self.fired]
+    }
+}
+
+impl Numbers for Report {
+    fn numbers(&self) -> Vec<u64> {
+        [&[self.no], &self.free[..]].concat()
+    }
+}

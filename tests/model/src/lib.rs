@@ -8,6 +8,8 @@ pub mod limits;
 pub mod pool;
 pub mod records;
 pub mod state;
+pub mod trace;
+pub mod verdict;
 
 pub use answers::*;
 pub use calls::Model;

@@ -5,6 +5,7 @@
 use model::limits::*;
 use model::records::{reason_word, EXIT_BYTES, EXIT_KIND, TICK_BYTES, TICK_KIND};
 use model::state::Reason;
+use model::trace;
 use numbers::document::Document;
 use numbers::sources::{self, Numbers};
 use std::collections::BTreeSet;
@@ -13,7 +14,7 @@ use std::process::ExitCode;
 const HEADER: &str = include_str!("../../../include/foamgangway.h");
 
 /// Words of the header that are no numbers.
-const NO_NUMBERS: [&str; 3] = ["FG_BUFFERS", "FG_WORDS", "FG_BYTES"];
+const NO_NUMBERS: [&str; 4] = ["FG_BUFFERS", "FG_RECORD", "FG_WORDS", "FG_BYTES"];
 
 /// The names of the header's numbers: every constant that it mentions.
 fn header_names() -> BTreeSet<&'static str> {
@@ -89,6 +90,7 @@ fn limits() -> Vec<Limit> {
         ("FG_EXIT_OVERFLOW", "", reason("overflow")),
         ("FG_TICK_BYTES", "", TICK_BYTES as i128),
         ("FG_EXIT_BYTES", "", EXIT_BYTES as i128),
+        ("FG_TRACE_MOST", "", trace::most() as i128),
         ("FG_WAIT_FOREVER", "", -1),
         ("FG_WAIT_NOT", "", 0),
         ("FG_CLASS_NOTIFY", "", NOTIFY.into()),
