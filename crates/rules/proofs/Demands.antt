@@ -18,7 +18,7 @@ use Rattle.ledger.specs.Lists.{those}
 use Rattle.ledger.specs.Reckon.{entered, firedTimers, firings, later, leaf, notices, page, reckon, short, verdict}
 use Rattle.ledger.specs.Room.{inHand, known}
 use Rattle.pools.specs.Pool.{occurs}
-use Rattle.tables.specs.State.{PastSame, capsOf}
+use Rattle.tables.specs.State.{PastSame, capsOf, needed, neededP}
 use Rattle.rules.specs.declared.Shown.{Shown}
 use Rattle.rules.specs.Rule.{Holds}
 use Rattle.rules.specs.Terms.{isActor}
@@ -26,7 +26,8 @@ use Rattle.rules.specs.Sound.{soundRule, viewOf}
 use Rattle.rules.specs.Agrees.{spelled}
 use Rattle.rules.specs.Calls.{Sleeps}
 use Rattle.rules.specs.Run.{sayShown, seven}
-use Rattle.rules.specs.Story.{Aims, Kept, Meets, Story, capsFor, line, startless}
+use Rattle.rules.specs.Story.{Aims, Kept, Meets, Story, capsFor, capsFrom, line, startless}
+use Rattle.rules.specs.Trim.{NeededSame}
 use Rattle.rules.proofs.Counts.{advance-once, line-notices, line-ticks}
 use Rattle.rules.proofs.HostLaws.{meets-broken, meets-once}
 use Rattle.rules.proofs.Keep.{good-view}
@@ -36,6 +37,7 @@ use Rattle.rules.proofs.Sleep.{line-sleep}
 use Rattle.rules.proofs.Story.{begun-kept, story-kept}
 use Rattle.rules.proofs.StoryAnswers.{line-counts, line-in-hand, line-refusal, line-refused, line-seven, line-two, line-unmet, line-unshown}
 use Rattle.rules.proofs.StoryEnds.{ended-stays-ended, strange-line}
+use Rattle.rules.proofs.Unread.{fresh-alike, line-unread}
 
 -- ---- DEMAND 1, of every call on any two buffers
 module _ (c : Call) (w p : List ℕ) (r : Answer) (w′ p′ : List ℕ) (meets : Meets c w p r w′ p′) where
@@ -47,6 +49,10 @@ module _ (c : Call) (w p : List ℕ) (r : Answer) (w′ p′ : List ℕ) (meets 
   pub past-stays : PastSame (capsFor c w) w p w′ p′
   past-stays = line-past c w p r w′ p′ meets
 
+  -- nor is it read: on other buffers with the same needed words and bytes, whatever is past them, the call answers the same and leaves the same needed words and bytes
+  pub past-unread : (v q : List ℕ) → NeededSame (capsFor c w) w p v q → (r₂ : Answer) (v′ q′ : List ℕ) → Meets c v q r₂ v′ q′ → (r₂ ≡ r) × NeededSame (capsFor c w) w′ p′ v′ q′
+  past-unread v q e r₂ v′ q′ = line-unread c w p v q e r r₂ w′ p′ v′ q′ meets
+
   -- DEMAND 2: no other answer and no other buffers meet the promise
   pub only-one : (r₂ : Answer) (w₂ p₂ : List ℕ) → Meets c w p r₂ w₂ p₂ → (r ≡ r₂) × (w′ ≡ w₂) × (p′ ≡ p₂)
   only-one r₂ w₂ p₂ = meets-once c w p meets
@@ -54,6 +60,11 @@ module _ (c : Call) (w p : List ℕ) (r : Answer) (w′ p′ : List ℕ) (meets 
 -- buffers that hold no sound runtime: every call but start answers 7, zeros beside it, and changes nothing
 pub unsound-seven : (o : Op) (w p : List ℕ) (r : Answer) (w′ p′ : List ℕ) → Meets (op o) w p r w′ p′ → (Holds (soundRule w p) → ⊥) → (r ≡ seven o) × (w′ ≡ w) × (p′ ≡ p)
 unsound-seven o w p r w′ p′ m n = meets-broken o w p n m
+
+-- a start that answered 0 on some buffers does so on any that are long enough, and leaves the same needed words and bytes: nothing that was there before counts
+pub start-forgets : (z : Sizes) (w p v q : List ℕ) (r : Answer) (w′ p′ v′ q′ : List ℕ) → Meets (start z) w p (plain 0) w′ p′ → Meets (start z) v q r v′ q′ →
+    needed (capsFrom z) ≤ length v → neededP (capsFrom z) ≤ length q → (r ≡ plain 0) × NeededSame (capsFrom z) w′ p′ v′ q′
+start-forgets = fresh-alike
 
 -- "every other number answered is 0": beside receive's 5 and 6 too
 pub zeros-beside : (sender class tag : ℕ) (wait : ℤ) (w p : List ℕ) (r : Answer) (w′ p′ : List ℕ) → Meets (op (receive sender class tag wait)) w p r w′ p′ → (number r ≡ 0 → ⊥) → r ≡ zeroed r

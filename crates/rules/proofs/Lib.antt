@@ -56,3 +56,5 @@ pub mod TieEnds
 pub mod TieLaws
 pub mod Ties
 pub mod TiesAgree
+pub mod Trim
+pub mod Unread

@@ -42,7 +42,7 @@ hold-bytes {k} {s} {w} {p} h = sym (join-view (capsOf w) w p .1) ∙ ap joinP (h
 
 -- ---- one line
 -- a call that is no start answers by its rule, and leaves the rule's state
-hold-line : {k : Caps} {s : State} (o : Op) (w p : List ℕ) (r : Answer) (w′ p′ : List ℕ) → Meets (op o) w p r w′ p′ → Hold k s w p →
+pub hold-line : {k : Caps} {s : State} (o : Op) (w p : List ℕ) (r : Answer) (w′ p′ : List ℕ) → Meets (op o) w p r w′ p′ → Hold k s w p →
     (r ≡ step o k s .ans) × Hold k (step o k s .state) w′ p′
 hold-line {k} {s} o w p r w′ p′ m h =
     let a = line-answer o w p r w′ p′ m (h .sound) in

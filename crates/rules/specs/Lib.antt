@@ -9,3 +9,4 @@ pub mod Run
 pub mod Sound
 pub mod Story
 pub mod Terms
+pub mod Trim

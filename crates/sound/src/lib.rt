@@ -61,7 +61,7 @@ pub enum Listed {
 }
 
 // ---- the capacities and the sizes
-fn ranged(k: Caps) -> bool
+pub fn ranged(k: Caps) -> bool
     ensures { λ r. ⌜ r ≡ test (rangeRule k) ⌝ }
 {
     (((1 <= k.actors) & (k.actors <= MOST_ACTORS)) & ((1 <= k.mails) & (k.mails <= MOST_MAILS)))
