@@ -1,0 +1,16 @@
+-- `judge::each::judge_notify` meets its contract: the call is made with the payload that was recorded, and the record is compared with the one that the writer writes of it. Assumes nothing.
+use borrow.Author.Needs.{needs}
+use Rattle.trace.specs.Kinds.{encode}
+use Rattle.judge.proofs.CallLaws.{judged-notify}
+use Rattle.judge.proofs.each.judge_notify.Statement.{statement}
+use Rattle.judge.proofs.each.judge_notify.Tie as tie
+
+returns : tie.Need-returns
+unfolding encode
+returns c =
+    let c1 = c .before .before .before .before .before .before .before in
+    let c2 = c1 .before .before .before .before .before .before .before in
+    judged-notify _ _ _ _ _ _ _ _ _ _ (c2 .pre) (c1 .fg-notify .ensures) (c .matches .ensures)
+
+pub judge-notify-spec : {M : Type 1} → statement M
+judge-notify-spec = tie.close (tie.spec (λ c κs. search needs) (λ c. search needs) (λ c. search needs) (λ c κs. search needs) (λ c. search needs) (λ c. search needs) returns)

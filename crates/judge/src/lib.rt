@@ -1,0 +1,6 @@
+// A trace judged, record by record, on two buffers.
+pub mod each;
+pub mod feed;
+pub mod forms;
+pub mod start;
+pub mod step;
