@@ -1,6 +1,5 @@
 // The trace, read a large part at a time.
-ghost use Prim.Native.Nat.{_+_, _≤_};
-ghost use lib.ListN.{length};
+use judge::feed::keep;
 use records::bytes::load16;
 
 // The longest record: its length has two bytes, and says how many follow.
@@ -38,18 +37,6 @@ pub fn closed() -> Window {
     }
 }
 
-// Bytes from a place on, moved to the front of the buffer.
-fn move_down(buf: &mut [u8], from: usize, size: usize)
-    requires { ⌜ from + size ≤ length (now buf) ⌝ }
-{
-    let mut i = 0;
-    while i < size {
-        let j = from + i;
-        buf[i] = buf[j];
-        i += 1;
-    }
-}
-
 // The buffer filled after its first bytes.
 fn fill_after(buf: &mut [u8], size: usize) -> Window {
     if buf.len() < size {
@@ -74,14 +61,13 @@ pub fn filled(buf: &mut [u8], w: Window) -> Window {
     if to < from {
         return w;
     }
-    let size = to - from;
-    if LONGEST <= size {
+    if LONGEST <= to - from {
         return w;
     }
     if buf.len() < to {
         return w;
     }
-    move_down(buf, from, size);
+    let size = keep(buf, from, to);
     fill_after(buf, size)
 }
 

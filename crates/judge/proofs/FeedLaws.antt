@@ -16,9 +16,9 @@ use Rattle.trace.specs.Kinds.{asked}
 use Rattle.trace.specs.Verdict.{Taken, extentOf, goesOn, taken, verdictFrom}
 use Rattle.trace.specs.Verdict.Verdict.{bad}
 use Rattle.trace.proofs.StepLaws.{from-whole}
-use Rattle.judge.specs.Feeding.{Bench, Judges, standing, unfinished}
+use Rattle.judge.specs.Feeding.{Bench, Comes, Judges, standing, unfinished}
 use Rattle.judge.specs.Replayed.{Replayed, isFirst}
-use Rattle.judge.proofs.ReplayLaws.{Comes, replayed-comes}
+use Rattle.judge.proofs.ReplayLaws.{replayed-comes}
 
 -- before the first record any two buffers will do that are long enough
 pub bench-before : (w p : List ℕ) → WORDS-MOST ≤ length w → ENTRY-BYTES * MOST-DATAS ≤ length p → Bench true w p

@@ -25,10 +25,10 @@ use Rattle.rules.proofs.StoryPlays.{can-start, hold, hold-line, start-holds}
 use Rattle.rules.proofs.Trim.{trim-fresh, trim-step}
 use Rattle.trace.specs.Kinds.{Asked, asked, encode}
 use Rattle.trace.specs.Kinds.Asked.{unknown, begins, asks}
-use Rattle.trace.specs.Verdict.{Stand, Taken, canBegin, matched, said, same, taken}
+use Rattle.trace.specs.Verdict.{Stand, canBegin, matched, said, same, taken}
 use Rattle.trace.specs.Verdict.Stand.{stands}
 use Rattle.trace.specs.Verdict.Taken.{go, stop}
-use Rattle.judge.specs.Feeding.{Bench, standing}
+use Rattle.judge.specs.Feeding.{Bench, Comes, standing}
 use Rattle.judge.specs.Replayed.{Begun, Judged, Replayed, Unmoved}
 
 -- ---- room
@@ -51,10 +51,6 @@ module _ {first : Bool} {w p : List ℕ} (h : Bench first w p) where
       record { words = omega (arith, l .0, h .words); bytes = omega (arith, l .1, h .bytes); sound = λ q. s }
 
 -- ---- what comes of a record
-pub record Comes (t : Taken) (b : Bool) (w′ p′ : List ℕ) : Type 0 where
-  pub right : b ≡ true → (t ≡ go (standing false w′ p′)) × Bench false w′ p′
-  pub wrong : b ≡ false → t ≡ stop
-
 -- no call was made
 comes-not : {w p : List ℕ} {b : Bool} {w′ p′ : List ℕ} → Unmoved w p b w′ p′ → Comes stop b w′ p′
 comes-not {b = b} u = record { right = λ q. absurd (true-false b q (u .is)); wrong = λ q. refl }

@@ -20,15 +20,15 @@ use Rattle.trace.specs.Kinds.{Fits, abridged, asked, encode, lengthRight, openi
 use Rattle.trace.specs.Kinds.Asked.{asks, begins}
 use Rattle.trace.specs.Verdict.{Verdict, taken, verdict}
 use Rattle.trace.specs.Verdict.Verdict.{ok}
-use Rattle.trace.specs.Writing.{Fitted, Means, written}
+use Rattle.trace.specs.Writing.{Fitted, Means, done, written}
 use Rattle.trace.proofs.Inverse.{decode-encode, encode-decode, one-call}
-use Rattle.trace.proofs.KindLaws.{done, read-op, read-start}
+use Rattle.trace.proofs.KindLaws.{read-op, read-start}
 use Rattle.trace.proofs.TraceOk.{trace-ok, verdict-exactly}
-use Rattle.judge.specs.Feeding.{Bench, Run, joined, standing}
+use Rattle.judge.specs.Feeding.{Bench, Comes, Run, joined, standing}
 use Rattle.judge.specs.Replayed.{Replayed}
 use Rattle.judge.proofs.CallLaws.{long-meets}
 use Rattle.judge.proofs.Once.{replayed-once}
-use Rattle.judge.proofs.ReplayLaws.{Comes, replayed-comes}
+use Rattle.judge.proofs.ReplayLaws.{replayed-comes}
 use Rattle.judge.proofs.RunLaws.{run-verdict}
 
 -- ---- WRITING AND READING

@@ -10,8 +10,9 @@ use Rattle.tables.specs.State.{capsOf}
 use Rattle.rules.specs.Rule.{Holds}
 use Rattle.rules.specs.Sound.{soundRule, viewOf}
 use Rattle.rules.specs.Trim.{trim}
-use Rattle.trace.specs.Verdict.{Stand, Verdict, ends, verdictFrom}
+use Rattle.trace.specs.Verdict.{Stand, Taken, Verdict, ends, verdictFrom}
 use Rattle.trace.specs.Verdict.Stand.{before, stands}
+use Rattle.trace.specs.Verdict.Taken.{go, stop}
 use Rattle.trace.specs.Verdict.Verdict.{bad, cut, ok}
 use Rattle.judge.specs.declared.feed.Fed.{Fed}
 use Rattle.judge.specs.Replayed.{isFirst}
@@ -26,6 +27,11 @@ pub record Bench (first : Bool) (w p : List ℕ) : Type 0 where
   pub words : WORDS-MOST ≤ length w
   pub bytes : ENTRY-BYTES * MOST-DATAS ≤ length p
   pub sound : first ≡ false → Holds (soundRule w p)
+
+-- what comes of a record that was judged, beside what the definition takes it for: it is right, and what stands after it stands in the buffers; or it is not
+pub record Comes (t : Taken) (b : Bool) (w′ p′ : List ℕ) : Type 0 where
+  pub right : b ≡ true → (t ≡ go (standing false w′ p′)) × Bench false w′ p′
+  pub wrong : b ≡ false → t ≡ stop
 
 -- ---- a piece of a trace, from record n on
 -- what is left of it: nothing, or the beginning of a record

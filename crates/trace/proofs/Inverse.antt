@@ -21,9 +21,9 @@ use Rattle.rules.specs.Run.{step}
 use Rattle.trace.specs.Codec.{Small, bytes, formed, kindOf, note, numbers, textOf}
 use Rattle.trace.specs.Kinds.{Asked, FIRST, Fits, Row, Signed, abridged, asked, callOf, encode, lengthRight, noRow, nth, opening, readAs, rowOf, rows, signed, stood, unsigned}
 use Rattle.trace.specs.Kinds.Asked.{unknown, begins, asks}
-use Rattle.trace.specs.Writing.{Passes}
+use Rattle.trace.specs.Writing.{Passes, done}
 use Rattle.trace.proofs.CodecLaws.{bytes-note, long, note-bytes}
-use Rattle.trace.proofs.KindLaws.{done, known, read-op}
+use Rattle.trace.proofs.KindLaws.{known, read-op}
 
 -- a line of the rules whose numbers fit 64 bits is read back, its payload over 252 bytes as its length
 pub decode-encode : (o : Op) (k : Caps) (s : State) → Small (done o k s .front) → Small (done o k s .back) → note (rowOf (opening o .kind) .shape) (encode 0 0 (op o) (step o k s .ans)) ≡ done o k s

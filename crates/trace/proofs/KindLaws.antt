@@ -22,6 +22,7 @@ use Rattle.rules.specs.Run.{step}
 use Rattle.trace.specs.Codec.{Note, Small, Stated, body, bytes, formed, frontOf, textLength, words}
 use Rattle.trace.specs.Kinds.{AllSigned, Fits, Signed, abridged, asked, callOf, encode, kept, lengthRight, noteOf, opening, readAs, rowOf, signed, startArgs, unsigned}
 use Rattle.trace.specs.Kinds.Asked.{asks, begins}
+use Rattle.trace.specs.Writing.{done}
 use Rattle.trace.proofs.CodecLaws.{formed-bytes, front-bytes, kind-bytes, length-words, text-bytes}
 
 -- ---- any note
@@ -71,11 +72,7 @@ kept-most : (bs : List ℕ) → length (kept bs) ≤ PAYLOAD-MOST
 kept-most bs = split (leb (length bs) PAYLOAD-MOST) (λ q. rw q (leb-true _ _ q)) (λ q. rw q (omega arith))
 
 -- ---- every call
--- its record, with the rule's answer
-abbrev pub done : Op → Caps → State → Note
-done o k s = noteOf 0 0 (op o) (step o k s .ans)
-
--- it has its kind and its kind's form, and its kind asks for it
+-- the note of a line of the rules has its kind and its kind's form, and its kind asks for the call
 pub record Known (o : Op) (k : Caps) (s : State) : Type 0 where
   pub kinds : done o k s .kind ≡ opening o .kind
   pub small : opening o .kind < 256 ^ 2

@@ -40,9 +40,9 @@ use Rattle.trace.specs.Verdict.Said.{right}
 use Rattle.trace.specs.Verdict.Stand.{before, stands}
 use Rattle.trace.specs.Verdict.Taken.{go}
 use Rattle.trace.specs.Verdict.Verdict.{ok, bad}
-use Rattle.trace.specs.Writing.{Fitted, Fitting, Means, Passes, written}
+use Rattle.trace.specs.Writing.{Fitted, Fitting, Means, Passes, done, written}
 use Rattle.trace.proofs.CodecLaws.{length-bytes, size-bytes}
-use Rattle.trace.proofs.KindLaws.{abridged-same, abridged-step, done, known, read-op, read-start, short-start}
+use Rattle.trace.proofs.KindLaws.{abridged-same, abridged-step, known, read-op, read-start, short-start}
 use Rattle.trace.proofs.OkLaws.{ok-fits, same-refl, verdict-means}
 use Rattle.trace.proofs.StepLaws.{from-cut, from-next, from-none, from-whole}
 
@@ -174,8 +174,8 @@ ok-exactly bs n b = (ok-fits bs n b, λ x. traced-ok (x .0) (x .1))
 
 -- ---- a story
 -- the bytes are the records of n lines, and every number that was passed fits
-abbrev Lines : Stand → List ℕ → ℕ → Type 0
-Lines b bs n = (t : Traced b bs n) × Fitting t
+abbrev Recorded : Stand → List ℕ → ℕ → Type 0
+Recorded b bs n = (t : Traced b bs n) × Fitting t
 
 encode-op : (w p : ℕ) (o : Op) (a : Answer) → encode w p (op o) a ≡ encode 0 0 (op o) a
 unfolding encode
@@ -195,15 +195,15 @@ hold-op {k} {u} o w p r w₁ p₁ m h =
 
 -- a start that is done, whatever stood before
 done-line : (b : Stand) (z : Sizes) (w p : List ℕ) (r : Answer) (bs : List ℕ) (n : ℕ) → r ≡ plain 0 → canStart (capsFrom z) w p ≡ true → Passes (length w) (length p) (start z) →
-    Lines (stands (capsFrom z) (trim (fresh (capsFrom z) (view (capsFrom z) w p)))) bs n → Lines b (encode (length w) (length p) (start z) r ++ bs) (suc n)
+    Recorded (stands (capsFrom z) (trim (fresh (capsFrom z) (view (capsFrom z) w p)))) bs n → Recorded b (encode (length w) (length p) (start z) r ++ bs) (suc n)
 unfolding Fitting
 done-line b z w p r bs n a q f x =
-    let y : Lines (stands (capsFrom z) (newly (capsFrom z))) bs n = subst (λ (s : State). Lines (stands (capsFrom z) s) bs n) (trim-fresh (capsFrom z) (view (capsFrom z) w p)) x in
+    let y : Recorded (stands (capsFrom z) (newly (capsFrom z))) bs n = subst (λ (s : State). Recorded (stands (capsFrom z) s) bs n) (trim-fresh (capsFrom z) (view (capsFrom z) w p)) x in
     rw a (Traced.started (length w) (length p) z q (y .0), (f, y .1))
 
 -- any line: what is after it stands on what it leaves
 one-line : (c : Call) (w p : List ℕ) (r : Answer) (w₁ p₁ : List ℕ) (k : Caps) (u : State) (bs : List ℕ) (n : ℕ) → Meets c w p r w₁ p₁ → Passes (length w) (length p) c → Hold k u w p →
-    ((k : Caps) (u : State) → Hold k u w₁ p₁ → Lines (stands k (trim u)) bs n) → Lines (stands k (trim u)) (encode (length w) (length p) c r ++ bs) (suc n)
+    ((k : Caps) (u : State) → Hold k u w₁ p₁ → Recorded (stands k (trim u)) bs n) → Recorded (stands k (trim u)) (encode (length w) (length p) c r ++ bs) (suc n)
 unfolding Fitting
 one-line (start z) w p r w₁ p₁ k u bs n m f h x =
     split (canStart (capsFrom z) w p)
@@ -214,11 +214,11 @@ one-line (start z) w p r w₁ p₁ k u bs n m f h x =
 one-line (op o) w p r w₁ p₁ k u bs n m f h x =
     let g = hold-op o w p r w₁ p₁ m h in
     let e = trim-step o k u in
-    let y : Lines (stands k (step o k (trim u) .state)) bs n = subst (λ (s : State). Lines (stands k s) bs n) (sym (e .1)) (x k (step o k u .state) (g .1)) in
+    let y : Recorded (stands k (step o k (trim u) .state)) bs n = subst (λ (s : State). Recorded (stands k s) bs n) (sym (e .1)) (x k (step o k u .state) (g .1)) in
     let a : encode (length w) (length p) (op o) r ≡ encode 0 0 (op o) (step o k (trim u) .ans) = encode-op (length w) (length p) o r ∙ ap (encode 0 0 (op o)) (g .0 ∙ sym (e .0)) in
     rw a (Traced.called o (y .0), (record { small = f .small; signs = f .signs }, y .1))
 
-story-lines : {w p w′ p′ : List ℕ} {xs : List Line} (s : Story w p xs w′ p′) → Fitted s → (k : Caps) (u : State) → Hold k u w p → Lines (stands k (trim u)) (written s) (length xs)
+story-lines : {w p w′ p′ : List ℕ} {xs : List Line} (s : Story w p xs w′ p′) → Fitted s → (k : Caps) (u : State) → Hold k u w p → Recorded (stands k (trim u)) (written s) (length xs)
 unfolding written Fitted Fitting
 story-lines Story.over f k u h = (Traced.over, record {})
 story-lines (Story.then {w} {p} {w₁} {p₁} {x = x} {xs = xs} m s) f k u h = one-line (x .call) w p (x .answer) w₁ p₁ k u (written s) (length xs) m (f .0) h (story-lines s (f .1))

@@ -39,15 +39,19 @@ pub record Row : Type 0 where
   pub shape : Form
   pub call : List ℕ → List ℕ → Asked
 
+-- so many numbers in front, a text of at most so many bytes (0: none), so many numbers after it; and the call
 abbrev pub row : ℕ → ℕ → ℕ → (List ℕ → List ℕ → Asked) → Row
 row n t m f = record { shape = form n t m; call = f }
 
+-- number i, counted from 0
 abbrev pub nth : List ℕ → ℕ → ℕ
 nth ns i = getD ns i 0
 
+-- a call with one number
 abbrev pub one : (ℕ → Op) → List ℕ → List ℕ → Asked
 one f ns t = asks (f (nth ns 0))
 
+-- a call with none
 abbrev pub bare : Op → List ℕ → List ℕ → Asked
 bare o ns t = asks o
 
@@ -74,9 +78,11 @@ rows =
     ∷ row 0 0 7 (bare report)
     ∷ []
 
+-- 1 to 4 are records inside messages, and never a trace's
 abbrev pub FIRST : ℕ
 FIRST = 16
 
+-- a kind that is in no row
 abbrev pub noRow : Row
 noRow = row 0 0 0 (λ ns t. unknown)
 
@@ -107,6 +113,7 @@ pub record Opening : Type 0 where
   pub text : List ℕ
   pub back : Op
 
+-- one with no signed number and no text
 abbrev pub opens : ℕ → List ℕ → Op → Opening
 opens k ns o = record { kind = k; numbers = ns; signs = []; text = []; back = o }
 

@@ -3,14 +3,22 @@ use Prim.Native.Nat.{ℕ}
 use mathlib.Core.Path.{_≡_}
 use mathlib.Core.List.{List, [], _++_}
 use lib.ListN.{length}
-use Rattle.ledger.specs.Call.{Call, Line}
+use Rattle.ledger.specs.Call.{Call, Line, Op}
 use Rattle.ledger.specs.Call.Call.{start, op}
+use Rattle.tables.specs.declared.Caps.{Caps}
+use Rattle.tables.specs.State.{State}
+use Rattle.rules.specs.Run.{step}
 use Rattle.rules.specs.Story.{Story}
-use Rattle.trace.specs.Codec.{Small}
-use Rattle.trace.specs.Kinds.{AllSigned, encode, opening, signsOf, startArgs}
+use Rattle.trace.specs.Codec.{Note, Small}
+use Rattle.trace.specs.Kinds.{AllSigned, encode, noteOf, opening, signsOf, startArgs}
 use Rattle.trace.specs.Verdict.{Ending, Stand, Traced, Verdict, left}
 use Rattle.trace.specs.Verdict.Stand.{before}
 
+-- a line of the rules, taken apart as its record has it: the call, and the answer of its rule
+abbrev pub done : Op → Caps → State → Note
+done o k s = noteOf 0 0 (op o) (step o k s .ans)
+
+-- the records of a story's lines, one after the other
 unfoldable pub written : {w p w′ p′ : List ℕ} {xs : List Line} → Story w p xs w′ p′ → List ℕ
 written Story.over = []
 written (Story.then {w} {p} {x = x} m s) = encode (length w) (length p) (x .call) (x .answer) ++ written s
