@@ -1,6 +1,7 @@
 //! Writes the columns of docs/LAYOUT.md as constants, for layout.rs.
-//! FG_LIB names the folder of the archives of runtime, records, trace and judge. Without it the test runs against a
-//! stand-in made of the model itself (`cfg(self_test)`), which tests the test.
+//! FG_LIB names the folder of the archives of runtime, records, trace and judge. With FG_LIB=plain the calls are those of the
+//! crate `plain` (`cfg(over_plain)`). Without it the test runs against a stand-in made of the model itself (`cfg(self_test)`), which
+//! tests the test.
 
 use numbers::document::Document;
 use std::path::Path;
@@ -11,6 +12,7 @@ fn main() {
     std::fs::write(Path::new(&folder).join("columns.rs"), columns(&document)).expect("the folder is cargo's own");
     println!("cargo:rerun-if-env-changed=FG_LIB");
     match std::env::var("FG_LIB") {
+        Ok(word) if word == "plain" => println!("cargo:rustc-cfg=over_plain"),
         Ok(folder) if !folder.is_empty() => link(&folder),
         _ => println!("cargo:rustc-cfg=self_test"),
     }

@@ -5,9 +5,17 @@ use model::limits::*;
 use model::pool::Entries;
 use model::records::header;
 use model::state::{Activity, State};
+use model::Model;
+
+/// Writes the state of a model, where it has one.
+pub fn store(m: &Model, words: &mut [u64], bytes: &mut [u8]) {
+    if let Some(state) = &m.state {
+        encode(state, words, bytes);
+    }
+}
 
 /// Writes a state to the needed words and bytes.
-pub fn encode(state: &State, words: &mut [u64], bytes: &mut [u8]) {
+fn encode(state: &State, words: &mut [u64], bytes: &mut [u8]) {
     let caps = state.capacities();
     let starts = starts(&caps);
     words[..starts[REST]].fill(0);

@@ -47,6 +47,12 @@ pub fn is(name: &str) -> bool {
     chosen() == name
 }
 
+/// Is no fault chosen?
+#[allow(dead_code)] // The stand-in bends every call by its fault, and by none where none is chosen.
+pub fn none() -> bool {
+    chosen().is_empty()
+}
+
 /// What the stand-in reads from the buffers: some faults overlook damage.
 pub fn read(words: &[u64], bytes: &[u8]) -> Option<State> {
     let (mut words, mut bytes) = (words.to_vec(), bytes.to_vec());

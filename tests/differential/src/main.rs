@@ -8,21 +8,26 @@ mod calls;
 mod compare;
 mod counts;
 mod damage;
-#[cfg(self_test)]
+#[cfg(any(self_test, over_plain))]
 mod encode;
 mod examples;
-#[cfg(self_test)]
+#[cfg(any(self_test, over_plain))]
+#[cfg_attr(over_plain, allow(dead_code))] // Plain Rust is bent from outside alone.
 mod faults;
 mod ffi;
 mod generate;
 mod layout;
 mod lengths;
+#[cfg(over_plain)]
+mod over_plain;
 mod random;
+#[cfg(any(self_test, over_plain))]
+mod record_stub;
 mod recorded;
 mod session;
 #[cfg(self_test)]
 mod stub;
-#[cfg(self_test)]
+#[cfg(any(self_test, over_plain))]
 mod trace_stub;
 mod traced;
 mod writers;
@@ -134,6 +139,9 @@ fn main() -> ExitCode {
     };
     if cfg!(self_test) {
         println!("differential: no archive is linked (FG_LIB is not set): the model is compared with itself");
+    }
+    if cfg!(over_plain) {
+        println!("differential: plain Rust is compared with the model");
     }
     match run(&options) {
         Ok(counts) => {

@@ -9,6 +9,7 @@ mod faults;
 #[allow(dead_code)]
 mod ffi;
 mod layout;
+mod record_stub;
 mod stub;
 mod trace_stub;
 mod writers;

@@ -4,10 +4,11 @@
 
 use crate::call::{Answer, Call};
 use crate::calls::calls;
+use crate::encode::store;
+use crate::faults;
 use crate::layout::table_suffices;
-use crate::{encode, faults};
 use model::limits::bytes_needed;
-use model::{records, Advanced, Ended, ExitRead, Made, Model, ReasonWord, Received, Report, Shown, TickRead, Turn};
+use model::{Advanced, Ended, Made, Model, Received, Report, Shown, Turn};
 use std::slice::{from_raw_parts, from_raw_parts_mut};
 
 /// Makes one call on the two buffers.
@@ -31,12 +32,6 @@ unsafe fn on_buffers(t: *mut u64, t_len: usize, p: *mut u8, p_len: usize, call: 
     }
     faults::spoil(&before, &after, words, bytes);
     faults::answer(answer)
-}
-
-pub fn store(m: &Model, words: &mut [u64], bytes: &mut [u8]) {
-    if let Some(state) = &m.state {
-        encode::encode(state, words, bytes);
-    }
 }
 
 /// A start may find any buffers, so it always writes when it succeeds.
@@ -90,31 +85,3 @@ macro_rules! stand_ins {
 }
 
 calls!(stand_ins);
-
-#[no_mangle]
-unsafe extern "C" fn fg_write_tick(out: *mut u8, len: usize, id: u32) -> u64 {
-    records::write_tick(from_raw_parts_mut(out, len), id)
-}
-
-#[no_mangle]
-unsafe extern "C" fn fg_read_tick(bytes: *const u8, len: usize) -> TickRead {
-    records::read_tick(from_raw_parts(bytes, len))
-}
-
-#[no_mangle]
-unsafe extern "C" fn fg_write_exit(out: *mut u8, len: usize, actor: u32, reason: u16, monitor: u32) -> u64 {
-    records::write_exit(from_raw_parts_mut(out, len), actor, reason, monitor)
-}
-
-#[no_mangle]
-unsafe extern "C" fn fg_read_exit(bytes: *const u8, len: usize) -> ExitRead {
-    records::read_exit(from_raw_parts(bytes, len))
-}
-
-#[no_mangle]
-extern "C" fn fg_reason_word(reason: u16) -> ReasonWord {
-    let word = records::reason_word(reason).as_bytes();
-    let mut bytes = [0; 8];
-    bytes[..word.len()].copy_from_slice(word);
-    ReasonWord { bytes, len: word.len() }
-}

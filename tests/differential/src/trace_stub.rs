@@ -1,8 +1,8 @@
 //! The stand-in's writers of records, and its judgement of a record, both made of the model.
 
+use crate::encode::store;
 use crate::faults;
 use crate::layout::suffices;
-use crate::stub::store;
 use crate::writers::{recorded, writers};
 use model::trace::{Field, Record, Shape};
 use model::verdict::Replay;

@@ -1,0 +1,263 @@
+//! The test of both buffers: the paragraph "Sound means" of document 01, in few passes over each column. What is counted as it goes:
+//! a mask of the actors in each state, and a byte for each data entry that somebody holds.
+//! Where several things are tested of one entry, they are joined by `&`, not by branches.
+
+use crate::actors::{FREE, RUNNABLE, RUNS, TIMEOUT, WAITS};
+use crate::ending::EXIT_HEADER;
+use crate::messages::{header_of, Filter, HEADER};
+use crate::pools::{all_free, count, is_free};
+use crate::tables::{Entry, Tables, ARRIVED, CLOCK, ENTRY, QUEUED, RUNNING, SPARE};
+use crate::timers::TICK_HEADER;
+use model::limits::*;
+use model::records::{EXIT_BYTES, TICK_BYTES};
+
+/// Who is in which state, a bit for each slot.
+#[derive(Default)]
+struct Who {
+    runnable: u64,
+    running: u64,
+    waiting: u64,
+    live: u64,
+}
+
+impl Who {
+    /// Does this word, a slot one up, name a live actor?
+    #[inline]
+    fn lives(&self, one_up: u64) -> bool {
+        let slot = one_up.wrapping_sub(1);
+        (slot < 64) & (self.live >> (slot % 64) & 1 == 1)
+    }
+
+    /// Two words that name two different live actors?
+    #[inline]
+    fn join(&self, one: u64, two: u64) -> bool {
+        (one != two) & self.lives(one) & self.lives(two)
+    }
+}
+
+/// Do the columns of these buffers keep every rule?
+#[inline(never)]
+pub fn is_sound(tables: &Tables) -> bool {
+    if !head(tables) || !in_range(tables) {
+        return false;
+    }
+    let Some(who) = actors(tables) else { return false };
+    let mut held = [0; 256];
+    queue(tables, &who)
+        && mailboxes(tables, &who, &mut held)
+        && hands(tables, &mut held)
+        && data(tables, &held)
+        && links(tables, &who)
+        && monitors(tables, &who)
+        && timers(tables, &who)
+}
+
+fn any_set(words: &[u64]) -> bool {
+    words.iter().fold(0, |all, word| all | word) != 0
+}
+
+fn head(tables: &Tables) -> bool {
+    let past = |bits: &[u64; 4], size: usize| {
+        let within = all_free(size);
+        (0..4).fold(0, |past, word| past | bits[word] & !within[word])
+    };
+    let past = past(tables.mail_free, tables.mails.owner.len()) | past(tables.data_free, tables.datas.sender.len());
+    tables.head[CLOCK] <= MAX_CLOCK && !any_set(&tables.head[SPARE..]) && past == 0
+}
+
+/// No word of a column is larger than `most`, which is below 2^63: a difference or a word that is too large has its top bit set.
+fn at_most(most: u64, column: &[u64]) -> bool {
+    column.iter().fold(0, |all, &word| all | word | most.wrapping_sub(word)) >> 63 == 0
+}
+
+/// What has a range of its own, whatever the state of its entry.
+fn in_range(tables: &Tables) -> bool {
+    at_most(MAX_PRIORITY, tables.actors.priority)
+        && at_most(MAX_AGE, tables.actors.age)
+        && at_most(tables.datas.sender.len() as u64, tables.actors.hand)
+        && at_most(MAX_AGE, tables.monitors.age)
+        && at_most(MAX_AGE, tables.timers.age)
+        && at_most(MAX_DUE, tables.timers.due)
+        && at_most(MAX_STEP, tables.timers.interval)
+}
+
+/// Every actor slot by itself. Answers who is in which state.
+fn actors(tables: &Tables) -> Option<Who> {
+    let a = &tables.actors;
+    let size = a.state.len();
+    let (states, priorities, reasons) = (&a.state[..size], &a.priority[..size], &a.reason[..size]);
+    let (ages, hands, deadlines) = (&a.age[..size], &a.hand[..size], &a.deadline[..size]);
+    let (senders, classes, tags) = (&a.want_sender[..size], &a.want_class[..size], &a.want_tag[..size]);
+    let mut who = Who::default();
+    for slot in 0..size {
+        let (state, reason, deadline) = (states[slot], reasons[slot], deadlines[slot]);
+        let filter = Filter { sender: senders[slot], class: classes[slot], tag: tags[slot] };
+        let wants = filter.sender | filter.class | filter.tag | deadline;
+        let sound = match state {
+            FREE => priorities[slot] | reason | hands[slot] | wants == 0,
+            RUNNABLE => {
+                who.runnable |= 1 << slot;
+                (ages[slot] != 0) & (reason <= TIMEOUT) & (wants == 0)
+            }
+            RUNS => {
+                who.running |= 1 << slot;
+                (ages[slot] != 0) & (reason | wants == 0)
+            }
+            WAITS => {
+                who.waiting |= 1 << slot;
+                (ages[slot] != 0) & (reason == 0) & filter.is_legal() & later(deadline, tables.head[CLOCK])
+            }
+            _ => false,
+        };
+        if !sound {
+            return None;
+        }
+    }
+    who.live = who.runnable | who.running | who.waiting;
+    Some(who)
+}
+
+/// No deadline, or one that is later than the clock and in range.
+fn later(deadline: u64, clock: u64) -> bool {
+    (deadline == 0) | ((deadline > clock) & (deadline <= MAX_DEADLINE))
+}
+
+/// The queue has each runnable slot once: as many words as there are such slots, and all of these. And the running slot is told.
+fn queue(tables: &Tables, who: &Who) -> bool {
+    let queued = tables.head[QUEUED];
+    if queued != u64::from(who.runnable.count_ones()) {
+        return false;
+    }
+    let (list, past) = tables.actors.queue.split_at(queued as usize);
+    let (found, all) = list.iter().fold((0, 0), |(found, all), &slot| (found | 1 << (slot % 64), all | slot));
+    let runner = tables.head[RUNNING];
+    let told = runner <= 64 && who.running == if runner == 0 { 0 } else { 1 << (runner - 1) };
+    all < 64 && found == who.runnable && told && !any_set(past)
+}
+
+/// The arrivals have each mailbox entry in use once; each is in a live actor's mailbox and has a data entry of its own, and no
+/// waiting actor's filter matches what it holds. All other entries are zero. An entry that arrived twice holds its data entry twice.
+#[inline(never)] // By itself its loop has more registers.
+fn mailboxes(tables: &Tables, who: &Who, held: &mut [u8; 256]) -> bool {
+    let size = tables.mails.owner.len();
+    let (owners, datas) = (&tables.mails.owner[..size], &tables.mails.data[..size]);
+    let arrived = size - count(tables.mail_free) as usize;
+    if tables.head[ARRIVED] != arrived as u64 {
+        return false;
+    }
+    let (list, past) = tables.mails.arrival.split_at(arrived);
+    let mut again = 0;
+    for &mail in list {
+        if mail >= size as u64 {
+            return false;
+        }
+        let mail = mail as usize;
+        let (owner, data) = (owners[mail], datas[mail].wrapping_sub(1));
+        let used = !is_free(tables.mail_free, mail);
+        if !(used & who.lives(owner) & (data < tables.datas.sender.len() as u64)) {
+            return false;
+        }
+        again |= mark(held, data as usize);
+        if who.waiting >> (owner - 1) & 1 == 1 && waits_for(tables, owner as usize - 1, data as usize) {
+            return false;
+        }
+    }
+    let filled = owners.iter().zip(datas).filter(|(&owner, &data)| owner | data != 0).count();
+    again == 0 && filled == arrived && !any_set(past)
+}
+
+/// Marks an entry; answers 1 where it was marked before.
+fn mark(marks: &mut [u8; 256], entry: usize) -> u8 {
+    std::mem::replace(&mut marks[entry % 256], 1)
+}
+
+/// Does the filter of the actor in a slot match a data entry?
+fn waits_for(tables: &Tables, slot: usize, data: usize) -> bool {
+    tables.filter(slot).matches(tables.datas.sender[data], header_of(&tables.datas.entries[data]))
+}
+
+/// The data entries in hands are nobody else's.
+fn hands(tables: &Tables, held: &mut [u8; 256]) -> bool {
+    let hands = tables.actors.hand.iter().filter(|&&hand| hand != 0);
+    hands.fold(0, |again, &hand| again | mark(held, hand as usize - 1)) == 0
+}
+
+/// Each data entry is held and holds a message, or is free and all zero.
+fn data(tables: &Tables, held: &[u8; 256]) -> bool {
+    let words = tables.datas.sender.iter().zip(&*tables.datas.length);
+    let mut entries = tables.datas.entries.iter().zip(words).zip(held).enumerate();
+    entries.all(|(number, ((entry, (&sender, &length)), &held))| {
+        if is_free(tables.data_free, number) {
+            (u64::from(held) | sender | length == 0) & is_zero(entry)
+        } else {
+            held == 1 && message(entry, sender, length, tables.actors.age)
+        }
+    })
+}
+
+/// Header, sender and length go together, and what is past the payload is zero.
+#[inline]
+fn message(entry: &Entry, sender: u64, length: u64, ages: &[u64]) -> bool {
+    let header = header_of(entry);
+    let of_its_class = match header {
+        TICK_HEADER => length == TICK_BYTES as u64,
+        EXIT_HEADER => length == EXIT_BYTES as u64,
+        _ => (u64::from(header) < ANY_TAG) & (length <= MAX_PAYLOAD as u64),
+    };
+    let sent = if sender == 0 { header == TICK_HEADER } else { was_an_actor(sender, ages) };
+    of_its_class && sent && zero_from(entry, HEADER + length as usize)
+}
+
+/// An actor id of age 1 to its slot's age.
+#[inline]
+fn was_an_actor(id: u64, ages: &[u64]) -> bool {
+    let (slot, age) = ((id % ACTOR_FACTOR) as usize, id / ACTOR_FACTOR);
+    slot < ages.len() && (age >= 1) & (age <= ages[slot])
+}
+
+/// Bytes that are looked at together.
+const WORD: usize = 8;
+
+#[inline]
+fn is_zero(entry: &Entry) -> bool {
+    entry.as_chunks::<WORD>().0.iter().fold(0, |all, word| all | u64::from_le_bytes(*word)) == 0
+}
+
+/// All bytes of an entry from this one on are zero.
+#[inline]
+fn zero_from(entry: &Entry, from: usize) -> bool {
+    if from >= ENTRY {
+        return true;
+    }
+    let words = &entry.as_chunks::<WORD>().0[from / WORD..];
+    let first = u64::from_le_bytes(words[0]) >> (8 * (from % WORD));
+    words[1..].iter().fold(first, |all, word| all | u64::from_le_bytes(*word)) == 0
+}
+
+/// Links join two different live actors, no pair twice.
+fn links(tables: &Tables, who: &Who) -> bool {
+    let (mut partners, mut good) = ([0u64; 64], true);
+    for (&one, &two) in tables.links.one.iter().zip(&*tables.links.two) {
+        if one | two != 0 {
+            // Stored one up, so a slot of 64 is row 0.
+            let (row, bit) = (one.min(two) as usize % 64, one.max(two) % 64);
+            good &= who.join(one, two) & (partners[row] >> bit & 1 == 0);
+            partners[row] |= 1 << bit;
+        }
+    }
+    good
+}
+
+/// Monitors join two different live actors, and have an age.
+fn monitors(tables: &Tables, who: &Who) -> bool {
+    let ends = tables.monitors.watcher.iter().zip(&*tables.monitors.watched);
+    let mut slots = ends.zip(&*tables.monitors.age);
+    slots.all(|((&watcher, &watched), &age)| watcher | watched == 0 || (age != 0) & who.join(watcher, watched))
+}
+
+/// Timers have live owners and an age.
+fn timers(tables: &Tables, who: &Who) -> bool {
+    let times = tables.timers.due.iter().zip(&*tables.timers.interval);
+    let mut slots = tables.timers.owner.iter().zip(&*tables.timers.age).zip(times);
+    slots.all(|((&owner, &age), (&due, &interval))| owner | due | interval == 0 || (age != 0) & who.lives(owner))
+}

@@ -1,0 +1,126 @@
+//! Damage to several words at once that breaks one rule alone: report answers 7. Damage to one word or byte is done by the differential test.
+
+use model::limits::*;
+use model::{Report, DONE, UNSOUND, WAITING};
+use plain::boundary;
+
+/// Every pool has so many entries, so that all columns from STATE on are of one size.
+const EACH: usize = 4;
+/// The words of the free bits, and where STATE begins.
+const MAIL_FREE: usize = 16;
+const DATA_FREE: usize = 20;
+const STATE: usize = 24;
+
+/// Some columns, counted from STATE on, by the rows of docs/LAYOUT.md.
+const WANT_TAG: usize = 7;
+const MAIL_DATA: usize = 11;
+const ARRIVAL: usize = 12;
+const SENDER: usize = 13;
+const LENGTH: usize = 14;
+const LINK_ONE: usize = 15;
+const LINK_TWO: usize = 16;
+
+/// Makes a call of plain Rust on a runtime's buffers.
+macro_rules! call {
+    ($runtime:expr, $name:ident $(, $arg:expr)*) => {{
+        let (words, bytes) = (&mut $runtime.words, &mut $runtime.bytes);
+        // SAFETY: pointers and lengths come from live slices that do not overlap.
+        unsafe { boundary::$name(words.as_mut_ptr(), words.len(), bytes.as_mut_ptr(), bytes.len() $(, $arg)*) }
+    }};
+}
+
+struct Runtime {
+    words: Vec<u64>,
+    bytes: Vec<u8>,
+}
+
+impl Runtime {
+    /// Three actors; the first runs, and two messages of its own are queued, with tags 1 and 2.
+    fn new() -> Self {
+        let (words, bytes) = plain::needed(&[EACH; 6]);
+        let mut r = Runtime { words: vec![0; words], bytes: vec![0; bytes] };
+        let each = EACH as u64;
+        assert_eq!(call!(r, start, each, each, each, each, each, each), DONE);
+        for id in ACTOR_FACTOR..ACTOR_FACTOR + 3 {
+            assert_eq!(call!(r, spawn, 1).id, id);
+        }
+        assert_eq!(call!(r, next).id, ACTOR_FACTOR);
+        for tag in [1, 2] {
+            assert_eq!(call!(r, notify, ACTOR_FACTOR, tag, [7; 5].as_ptr(), 5), DONE);
+        }
+        r
+    }
+
+    fn word(&mut self, column: usize, entry: usize) -> &mut u64 {
+        &mut self.words[STATE + EACH * column + entry]
+    }
+
+    /// Frees data entry 1 as a call would, so that only the mailboxes know of it.
+    fn free_second_message(&mut self) {
+        self.words[DATA_FREE] |= 1 << 1;
+        *self.word(SENDER, 1) = 0;
+        *self.word(LENGTH, 1) = 0;
+        self.bytes[256..512].fill(0);
+    }
+
+    fn is_sound(&mut self) -> bool {
+        match call!(self, report) {
+            Report { no: DONE, .. } => true,
+            report => {
+                assert_eq!(report, Report { no: UNSOUND, free: [0; 6] });
+                false
+            }
+        }
+    }
+}
+
+#[test]
+fn another_mailbox_entry_is_free_than_the_one_that_arrived() {
+    let mut r = Runtime::new();
+    assert_eq!(r.words[MAIL_FREE], 0b1100);
+    assert!(r.is_sound());
+    r.words[MAIL_FREE] = 0b0101;
+    assert!(!r.is_sound());
+}
+
+#[test]
+fn two_messages_share_a_data_entry() {
+    let mut r = Runtime::new();
+    assert!(r.is_sound());
+    r.free_second_message();
+    *r.word(MAIL_DATA, 1) = *r.word(MAIL_DATA, 0);
+    assert!(!r.is_sound());
+}
+
+#[test]
+fn a_message_arrived_twice_and_another_not_at_all() {
+    let mut r = Runtime::new();
+    assert!(r.is_sound());
+    r.free_second_message();
+    *r.word(ARRIVAL, 1) = *r.word(ARRIVAL, 0);
+    assert!(!r.is_sound());
+}
+
+#[test]
+fn a_pair_is_linked_twice() {
+    for turned in [false, true] {
+        let mut r = Runtime::new();
+        assert_eq!(call!(r, link, ACTOR_FACTOR + 1), DONE);
+        let (one, two) = (*r.word(LINK_ONE, 0), *r.word(LINK_TWO, 0));
+        (*r.word(LINK_ONE, 2), *r.word(LINK_TWO, 2)) = (one, 3);
+        assert!(r.is_sound());
+        (*r.word(LINK_ONE, 2), *r.word(LINK_TWO, 2)) = if turned { (two, one) } else { (one, two) };
+        assert!(!r.is_sound());
+    }
+}
+
+#[test]
+fn a_waiting_actor_has_what_it_waits_for() {
+    let mut r = Runtime::new();
+    assert_eq!(call!(r, receive, ANY_SENDER, NOTIFY, 3, -1).no, WAITING);
+    assert!(r.is_sound());
+    for (tag, sound) in [(1, false), (2, false), (3, true), (4, true), (ANY_TAG, false)] {
+        *r.word(WANT_TAG, 0) = tag;
+        assert_eq!(r.is_sound(), sound, "it waits for tag {tag}");
+    }
+}

@@ -1,0 +1,88 @@
+//! The stages of the calls that take longest, at the largest capacities.
+
+use crate::sides::Call;
+use crate::stage::{receive_any, Stage};
+use model::limits::*;
+
+/// Messages by the running actor to itself or, from the second on, to the others in turn.
+fn send(stage: &mut Stage, count: u64, to_others: bool) {
+    for number in 0..count {
+        let target = if to_others { 1 + number % (LARGEST[0] - 1) } else { 0 };
+        stage.done(Call::Notify(Stage::id(target), 0, 8 + (number % 200) as usize));
+    }
+}
+
+/// All actors; the first runs, with 63 links, 64 timers, 64 monitors by it and 64 on it.
+fn tied() -> Stage {
+    let mut stage = Stage::with_actors(LARGEST, LARGEST[0]);
+    for number in 0..LARGEST[0] {
+        let other = Stage::id(1 + number % (LARGEST[0] - 1));
+        stage.done(Call::Link(other));
+        stage.done(Call::Monitor(other));
+        stage.done(Call::Every(1_000_000 + number));
+    }
+    for slot in 1..LARGEST[0] {
+        stage.turn();
+        stage.done(Call::Monitor(Stage::id(0)));
+        if slot == 1 {
+            stage.done(Call::Monitor(Stage::id(0)));
+        }
+    }
+    stage.turn();
+    stage
+}
+
+/// Everything is the running actor's: 255 messages in its mailbox and one in its hand, links, monitors, timers.
+pub fn everything_its_own() -> Stage {
+    let mut stage = tied();
+    send(&mut stage, LARGEST[1], false);
+    stage.done(receive_any());
+    stage.expect_free([0, 0, LARGEST[3] - 63, 0, 0]);
+    stage
+}
+
+/// The same ties, but all messages but two are others'.
+pub fn few_messages_its_own() -> Stage {
+    let mut stage = tied();
+    send(&mut stage, 2, false);
+    send(&mut stage, LARGEST[1] - 2, true);
+    stage.expect_free([0, 0, LARGEST[3] - 63, 0, 0]);
+    stage
+}
+
+/// All timers are due after a second, in another order than that of their slots; so many messages are queued.
+pub fn timers_armed(messages: u64) -> Stage {
+    let mut stage = Stage::with_actors(LARGEST, LARGEST[0]);
+    send(&mut stage, messages, true);
+    for number in 0..LARGEST[5] {
+        let due = 1_000 + number * 29 % LARGEST[5];
+        stage.done(if number % 2 == 0 { Call::After(due) } else { Call::Every(due) });
+    }
+    stage
+}
+
+/// All actors but the last wait, each with a deadline of its own, later slots with earlier ones; every pool of messages is full.
+pub fn deadlines_near() -> Stage {
+    let mut stage = Stage::with_actors(LARGEST, LARGEST[0]);
+    send(&mut stage, LARGEST[1], true);
+    for slot in 0..LARGEST[0] - 1 {
+        stage.make(Call::Receive(ANY_SENDER, NOTIFY, 9, 100 - slot as i64));
+        stage.done(Call::Next);
+    }
+    stage
+}
+
+/// The running actor's mailbox holds all messages, and the last one alone has tag 1.
+pub fn match_is_last() -> Stage {
+    let mut stage = Stage::with_actors(LARGEST, 1);
+    send(&mut stage, LARGEST[1] - 1, false);
+    stage.done(Call::Notify(Stage::id(0), 1, 8));
+    stage
+}
+
+/// All actors are queued, and nobody runs; every other pool is empty.
+pub fn all_queued() -> Stage {
+    let mut stage = Stage::with_actors(LARGEST, LARGEST[0]);
+    stage.done(Call::Yield);
+    stage
+}
