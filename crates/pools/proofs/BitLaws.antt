@@ -44,14 +44,6 @@ add-other x (suc k) (suc j) h d =
     bit-suc (x + 2 ^ suc k) j ∙ ap (λ (y : ℕ). bit y j) half
     ∙ add-other (x / 2) k j (sym (bit-suc x k) ∙ h) (λ e. d (ap suc e)) ∙ sym (bit-suc x j)
 
--- a number of w bits stays one
-pub add-fits : (x k w : ℕ) → k < w → x < 2 ^ w → bit x k ≡ 0 → x + 2 ^ k < 2 ^ w
-add-fits x k zero l b h = absurd (omega arith)
-add-fits x zero (suc w) l b h = omega (arith, pow-suc 2 w, bit-zero x)
-add-fits x (suc k) (suc w) l b h =
-    let more : x / 2 + 2 ^ k < 2 ^ w = add-fits (x / 2) k w (omega arith) (omega (arith, pow-suc 2 w)) (sym (bit-suc x k) ∙ h) in
-    omega (arith, pow-suc 2 w, pow-suc 2 k)
-
 -- a number with bit k is at least 2 ^ k
 pub sub-fits : (x k : ℕ) → bit x k ≡ 1 → 2 ^ k ≤ x
 sub-fits x zero h = omega (arith, bit-zero x)
@@ -108,10 +100,6 @@ module _ (x k : ℕ) where
   cleared-other j d =
       bit-cases (λ e. ap (λ (y : ℕ). bit y j) (cleared-one e) ∙ sub-other x k j e d) (λ e. ap (λ (y : ℕ). bit y j) (cleared-zero e))
 
-  -- a number of w bits stays one
-  pub cleared-fits : (w : ℕ) → x < 2 ^ w → cleared x k < 2 ^ w
-  cleared-fits w h = omega arith
-
   -- a set bit is 1
   pub marked-same : bit (marked x k) k ≡ 1
   marked-same =
@@ -121,10 +109,6 @@ module _ (x k : ℕ) where
   pub marked-other : (j : ℕ) → (j ≡ k → ⊥) → bit (marked x k) j ≡ bit x j
   marked-other j d =
       bit-cases (λ e. ap (λ (y : ℕ). bit y j) (marked-one e)) (λ e. ap (λ (y : ℕ). bit y j) (marked-zero e) ∙ add-other x k j e d)
-
-  -- a number of w bits stays one
-  pub marked-fits : (w : ℕ) → k < w → x < 2 ^ w → marked x k < 2 ^ w
-  marked-fits w l h = bit-cases (λ e. rw (marked-one e) h) (λ e. rw (marked-zero e) (add-fits x k w l h e))
 
 -- `1 << k` in a word
 pub one-shl : (k : ℕ) → k < WORD-BITS → (1 * 2 ^ k) % 2 ^ WORD-BITS ≡ 2 ^ k

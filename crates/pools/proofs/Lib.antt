@@ -1,5 +1,6 @@
 -- Laws that belong to no one function.
 pub mod BitLaws
+pub mod MaskLaws
 pub mod BoolLaws
 pub mod ExactLaws
 pub mod FreeLaws

@@ -1,6 +1,6 @@
 // Free bits: bit i % 64 of word i / 64 is 1 where entry i is free.
 ghost use mathlib.Core.Path.{_≡_};
-ghost use Prim.Native.Nat.{_*_, _<_, _^_};
+ghost use Prim.Native.Nat.{_<_, _^_};
 ghost use Rattle.pools.specs.Pool.{lowest, count};
 ghost use Rattle.pools.specs.Bits.{WORD-BITS, bit, free, taken, released};
 
@@ -39,7 +39,7 @@ pub fn take(w: &mut [u64], i: usize)
 {
     if i / WORD_BITS < w.len() {
         let x = w[i / WORD_BITS];
-        w[i / WORD_BITS] = x - bit_of(x, i % WORD_BITS) * power(i % WORD_BITS);
+        w[i / WORD_BITS] = x & !power(i % WORD_BITS);
     }
 }
 
@@ -49,7 +49,7 @@ pub fn release(w: &mut [u64], i: usize)
 {
     if i / WORD_BITS < w.len() {
         let x = w[i / WORD_BITS];
-        w[i / WORD_BITS] = x + (1 - bit_of(x, i % WORD_BITS)) * power(i % WORD_BITS);
+        w[i / WORD_BITS] = x | power(i % WORD_BITS);
     }
 }
 

@@ -1,30 +1,16 @@
--- A word with one more bit still fits; past the last word nothing is written. Assumes nothing.
+-- A word with its bit set; past the last word nothing is written. Assumes nothing.
+use Prim.Native.Nat.{_/_, _%_}
 use mathlib.Core.Path.{sym}
-use native.Mathlib.Nat.{lt-of-le-of-lt, le-add-left}
-use native.Mathlib.Omega.{arith}
+use lib.ListN.{getD}
 use lib.Seq.{set-out}
 use Rattle.pools.specs.Bits.{WORD-BITS}
-use Rattle.pools.proofs.BitLaws.{marked-fits}
+use Rattle.pools.proofs.MaskLaws.{or-mark}
 use borrow.Author.Needs.{needs}
 use Rattle.pools.proofs.bits.release.Statement.{statement}
 use Rattle.pools.proofs.bits.release.Tie as tie
 
-mul-w : tie.Need-mul-w
-mul-w c =
-    record {
-      fits = rw (c .before .bit-of .ensures, c .power .ensures)
-          (lt-of-le-of-lt (le-add-left _ _) (marked-fits _ _ WORD-BITS (omega arith) (c .before .before .slice-known2 .given _ .fits)));
-    }
-
-add-w : tie.Need-add-w
-add-w c =
-    record {
-      fits = rw (c .before .bit-of .ensures, c .power .ensures)
-          (marked-fits _ _ WORD-BITS (omega arith) (c .before .before .slice-known2 .given _ .fits));
-    }
-
 returns : tie.Need-returns
-returns c = rw (c .before .bit-of .ensures, c .power .ensures)
+returns c = let s = c .before .before .before .before .args in rw (c .power .ensures, or-mark (getD (s .w .now) (s .i / WORD-BITS) 0) (s .i % WORD-BITS))
 
 returns-2 : tie.Need-returns-2
 returns-2 c = sym (set-out _ _ _ (c .if1 .left))
@@ -36,10 +22,6 @@ release-spec =
     (λ c. search needs)
     (λ c. search needs)
     (λ c κs. search needs)
-    (λ c. search needs)
-    (λ c κs. search needs)
-    mul-w
-    add-w
     (λ c. search needs)
     (λ c. search needs)
     (λ c. search needs)

@@ -1,24 +1,19 @@
--- What clearing the bit takes away is there; past the last word nothing is written. Assumes nothing.
+-- A word with its bit cleared; past the last word nothing is written. Assumes nothing.
+use Prim.Native.Nat.{_/_, _%_}
 use mathlib.Core.Path.{sym}
-use native.Mathlib.Nat.{lt-of-le-of-lt}
+use native.Mathlib.Omega.{arith}
+use lib.ListN.{getD}
 use lib.Seq.{set-out}
-use Rattle.pools.proofs.BitLaws.{cleared-from}
+use Rattle.pools.specs.Bits.{WORD-BITS}
+use Rattle.pools.proofs.MaskLaws.{and-clear}
 use borrow.Author.Needs.{needs}
 use Rattle.pools.proofs.bits.take.Statement.{statement}
 use Rattle.pools.proofs.bits.take.Tie as tie
 
-mul-w : tie.Need-mul-w
-mul-w c =
-    record {
-      fits = rw (c .before .bit-of .ensures, c .power .ensures)
-          (lt-of-le-of-lt (cleared-from _ _) (c .before .before .slice-known2 .given _ .fits));
-    }
-
-sub-w : tie.Need-sub-w
-sub-w c = rw (c .before .bit-of .ensures, c .power .ensures) (cleared-from _ _)
-
 returns : tie.Need-returns
-returns c = rw (c .before .bit-of .ensures, c .power .ensures)
+returns c =
+    let s = c .before .before .before .before .args in
+    rw (c .power .ensures, and-clear WORD-BITS (getD (s .w .now) (s .i / WORD-BITS) 0) (s .i % WORD-BITS) (omega arith) (c .before .slice-known2 .given (s .i / WORD-BITS) .fits))
 
 returns-2 : tie.Need-returns-2
 returns-2 c = sym (set-out _ _ _ (c .if1 .left))
@@ -30,9 +25,6 @@ take-spec =
     (λ c. search needs)
     (λ c. search needs)
     (λ c κs. search needs)
-    (λ c κs. search needs)
-    mul-w
-    sub-w
     (λ c. search needs)
     (λ c. search needs)
     (λ c. search needs)
