@@ -1,22 +1,17 @@
--- The payload area in its buffer: headers, runs of zeros, and a rule that goes by a test. Assumes nothing.
-use Prim.Native.Nat.{ℕ, zero, suc, _+_, _*_, _≤_, _<_}
+-- The payload area in its buffer: headers, runs of zeros, a rule that goes by a test, and a filter. Assumes nothing.
+use Prim.Native.Nat.{ℕ, zero, suc, _*_, _≤_, _<_}
 use native.Mathlib.Omega.{arith}
 use mathlib.Core.Path.{_≡_, refl, sym, ap, _∙_}
 use mathlib.Core.Bool.{Bool, true, false, not, _&&_, _||_}
 use mathlib.Core.List.{List, []}
 use lib.ListN.{take, drop, length-take, drop-of-length-le}
-use lib.Seq.{getD-take}
 use lib.Dec.{eqb}
 use lib.Bits.{bitOr, or-add-and, and-le-r, or-zero-l}
 use borrow.Author.Tests.{ne-eqb}
 use Rattle.records.specs.Bytes.{ofLe, field}
-use Rattle.rules.specs.Rule.{test}
-use Rattle.rules.specs.Sound.{zeros}
-use Rattle.rules.specs.Terms.{header, headerAt}
-use Rattle.rules.proofs.RuleLaws.{all-same}
+use Rattle.rules.specs.Terms.{fits, header, headerAt, wants}
 use Rattle.tables.specs.declared.Caps.{Caps}
-use Rattle.tables.specs.Columns.{PAYLOAD}
-use Rattle.tables.specs.Limits.{ENTRY-BYTES, HEADER-BYTES}
+use Rattle.tables.specs.Limits.{ANY-CLASS, ANY-SENDER, ANY-TAG, ENTRY-BYTES, HEADER-BYTES}
 use Rattle.tables.specs.State.{view, cut}
 use Rattle.pools.proofs.ListLaws.{part-take}
 
@@ -42,11 +37,6 @@ module _ (k : Caps) (w p : List ℕ) where
       let e : drop (ENTRY-BYTES * d) l ≡ [] = drop-of-length-le l {i = ENTRY-BYTES * d} (rw (length-take (ENTRY-BYTES * k .datas) p) (omega arith)) in
       ap (λ x. ofLe (take 4 x)) (sym e)
 
-  -- a run of zeros, in the buffer
-  pub zeros-in : (from n : ℕ) → from + n ≤ ENTRY-BYTES * k .datas → test (zeros p from n) ≡ test (zeros (view k w p PAYLOAD) from n)
-  unfolding zeros view cut
-  zeros-in from n h = all-same n _ _ (λ i l. ap (λ x. eqb x 0) (sym (getD-take (ENTRY-BYTES * k .datas) p (from + i) 0 (omega arith))))
-
 -- ---- a rule of two parts, of which a test says which one counts
 pub pick-yes : {b x : Bool} (y : Bool) {r : Bool} → b ≡ true → r ≡ x → r ≡ (not b || x) && (not (not b) || y)
 pick-yes {b} {x} y e q = rw (e, q) (and-yes x)
@@ -57,3 +47,23 @@ pick-yes {b} {x} y e q = rw (e, q) (and-yes x)
 
 pub pick-no : {b y : Bool} (x : Bool) {r : Bool} → b ≡ false → r ≡ y → r ≡ (not b || x) && (not (not b) || y)
 pick-no x e q = rw (e, q)
+
+-- ---- a filter of which the tag is asked first
+last-no : (a b : Bool) {c : Bool} → c ≡ false → false ≡ a && (b && c)
+last-no true true e = sym e
+last-no true false e = refl
+last-no false b e = refl
+
+last-yes : (a b : Bool) {c : Bool} → c ≡ true → a && b ≡ a && (b && c)
+last-yes true true e = sym e
+last-yes true false e = refl
+last-yes false b e = refl
+
+module _ (by class tag sender kind x : ℕ) where
+  pub tag-other : wants ANY-TAG tag x ≡ false → false ≡ fits by class tag sender kind x
+  unfolding fits
+  tag-other e = last-no (wants ANY-SENDER by sender) (wants ANY-CLASS class kind) e
+
+  pub tag-same : wants ANY-TAG tag x ≡ true → wants ANY-SENDER by sender && wants ANY-CLASS class kind ≡ fits by class tag sender kind x
+  unfolding fits
+  tag-same e = last-yes (wants ANY-SENDER by sender) (wants ANY-CLASS class kind) e

@@ -1,3 +1,6 @@
 -- Definitions that the contracts cite.
 pub mod Kinds
-pub mod Tallies
+pub mod Marks
+pub mod Pairs
+pub mod Standing
+pub mod Ties

@@ -2,19 +2,31 @@
 ghost use mathlib.Core.Path.{_≡_};
 ghost use Rattle.rules.specs.Rule.{both, test, Holds};
 ghost use Rattle.rules.specs.Sound.{rangeRule, sizeRule, fitRule, capsRule, headRule, plainRules, lateRules, soundAt, soundRule};
-ghost use Rattle.sound.specs.Kinds.{frontRules, bitRules, boxRules, dataRules, timeRules};
+ghost use Rattle.sound.specs.Kinds.{frontRules, bitRules, boxRules, dataRules, timeRules, filterRules, pairRules, countRules, earlyRules};
+ghost use Rattle.sound.specs.Standing.{Standing};
+ghost use Rattle.tables.specs.Columns.{STATE};
 ghost use Rattle.tables.specs.State.{view, Room};
-use every::every;
+use every::boxes;
+use every::slots;
+use every::spares;
+use marks::counted_ok;
+use marks::once_ok;
+use messages::datas;
+use standing::PLACES;
+use standing::stand;
 use tables::Caps;
 use tables::columns::ACTORS;
 use tables::columns::ARRIVED;
 use tables::columns::CLOCK;
+use tables::columns::DATA_FREE;
 use tables::columns::DATAS;
 use tables::columns::LINKS;
+use tables::columns::MAIL_FREE;
 use tables::columns::MAILS;
 use tables::columns::MONITORS;
 use tables::columns::QUEUED;
 use tables::columns::RUNNING;
+use tables::columns::STATE;
 use tables::columns::TIMERS;
 use tables::layout::bytes_needed;
 use tables::layout::caps_of;
@@ -26,39 +38,24 @@ use tables::limits::MOST_LINKS;
 use tables::limits::MOST_MAILS;
 use tables::limits::MOST_MONITORS;
 use tables::limits::MOST_TIMERS;
-use tables::sizes::COLUMN_BITS;
-use tables::sizes::SPARES;
+use tables::words::column;
 use tables::words::get;
-use tallies::arrived_ok;
-use tallies::held_ok;
-use tallies::once_ok;
+use ties::links;
+use ties::monitors;
+use ties::timers;
+use words::words_ok;
 
 pub mod entries;
 pub mod every;
+pub mod lists;
+pub mod mails;
+pub mod marks;
+pub mod messages;
 pub mod payload;
-pub mod tallies;
-
-// The kinds of entries that have a rule each.
-pub enum Kind {
-    Spare,
-    MailBit,
-    DataBit,
-    Slot,
-    Box,
-    Data,
-    Link,
-    Monitor,
-    Timer,
-    Pair,
-    Filter,
-}
-
-// The lists that name entries: the queue, the arrivals, and the messages that are queued or in hand.
-pub enum Listed {
-    Queued,
-    Arrived,
-    Held,
-}
+pub mod standing;
+pub mod ties;
+pub mod words;
+pub mod zeros;
 
 // ---- the capacities and the sizes
 pub fn ranged(k: Caps) -> bool
@@ -122,7 +119,7 @@ fn front_ok(t: &[u64], p: &[u8], k: Caps) -> bool
 {
     let caps = caps_ok(t, p, k);
     let head = head_ok(t, p, k);
-    let spare = every(t, p, k, Kind::Spare, SPARES as u64);
+    let spare = spares(t, p, k);
     caps & (head & spare)
 }
 
@@ -130,61 +127,71 @@ fn all_bits_ok(t: &[u64], p: &[u8], k: Caps) -> bool
     requires { ⌜ Room k (now t) (now p) ⌝ }
     ensures { λ r. ⌜ r ≡ test (bitRules k (view k (now (t .entry)) (now (p .entry)))) ⌝ }
 {
-    let mails = every(t, p, k, Kind::MailBit, COLUMN_BITS as u64);
-    let datas = every(t, p, k, Kind::DataBit, COLUMN_BITS as u64);
+    let mails = words_ok(t, p, k, MAIL_FREE, k.mails);
+    let datas = words_ok(t, p, k, DATA_FREE, k.datas);
     mails & datas
 }
 
-fn boxes_ok(t: &[u64], p: &[u8], k: Caps) -> bool
-    requires { ⌜ Room k (now t) (now p) ⌝ }
-    ensures { λ r. ⌜ r ≡ test (boxRules k (view k (now (t .entry)) (now (p .entry)))) ⌝ }
+// The slots and the mailbox entries, with the filters.
+fn boxes_ok(t: &[u64], p: &[u8], k: Caps, row: &[u8; PLACES]) -> bool
+    requires { ⌜ Room k (now t) (now p) × Standing (view k (now t) (now p) STATE) (now row) ⌝ }
+    ensures { λ r. ⌜ r ≡ test (both (boxRules k (view k (now (t .entry)) (now (p .entry)))) (filterRules k (view k (now (t .entry)) (now (p .entry))))) ⌝ }
 {
-    let slots = every(t, p, k, Kind::Slot, k.actors as u64);
-    let boxes = every(t, p, k, Kind::Box, k.mails as u64);
+    let slots = slots(t, p, k);
+    let boxes = boxes(t, p, k, row);
     slots & boxes
 }
 
-fn datas_ok(t: &[u64], p: &[u8], k: Caps) -> bool
-    requires { ⌜ Room k (now t) (now p) ⌝ }
-    ensures { λ r. ⌜ r ≡ test (dataRules k (view k (now (t .entry)) (now (p .entry)))) ⌝ }
+// The data entries and the links, with the pairs.
+fn datas_ok(t: &[u64], p: &[u8], k: Caps, row: &[u8; PLACES]) -> bool
+    requires { ⌜ Room k (now t) (now p) × Standing (view k (now t) (now p) STATE) (now row) ⌝ }
+    ensures { λ r. ⌜ r ≡ test (both (dataRules k (view k (now (t .entry)) (now (p .entry)))) (pairRules k (view k (now (t .entry)) (now (p .entry))))) ⌝ }
 {
-    let datas = every(t, p, k, Kind::Data, k.datas as u64);
-    let links = every(t, p, k, Kind::Link, k.links as u64);
+    let datas = datas(t, p, k);
+    let links = links(t, p, k, row);
     datas & links
 }
 
-fn times_ok(t: &[u64], p: &[u8], k: Caps) -> bool
-    requires { ⌜ Room k (now t) (now p) ⌝ }
+fn times_ok(t: &[u64], p: &[u8], k: Caps, row: &[u8; PLACES]) -> bool
+    requires { ⌜ Room k (now t) (now p) × Standing (view k (now t) (now p) STATE) (now row) ⌝ }
     ensures { λ r. ⌜ r ≡ test (timeRules k (view k (now (t .entry)) (now (p .entry)))) ⌝ }
 {
-    let monitors = every(t, p, k, Kind::Monitor, k.monitors as u64);
-    let timers = every(t, p, k, Kind::Timer, k.timers as u64);
+    let monitors = monitors(t, p, k, row);
+    let timers = timers(t, p, k, row);
     monitors & timers
 }
 
-fn plain_ok(t: &[u64], p: &[u8], k: Caps) -> bool
-    requires { ⌜ Room k (now t) (now p) ⌝ }
-    ensures { λ r. ⌜ r ≡ test (plainRules k (view k (now (t .entry)) (now (p .entry)))) ⌝ }
+// All of them, and the filters and the pairs, which are tested with the entries that they belong to. The row says how the slots stand.
+fn plain_ok(t: &[u64], p: &[u8], k: Caps, row: &[u8; PLACES]) -> bool
+    requires { ⌜ Room k (now t) (now p) × Standing (view k (now t) (now p) STATE) (now row) ⌝ }
+    ensures { λ r. ⌜ r ≡ test (earlyRules k (view k (now (t .entry)) (now (p .entry)))) ⌝ }
 {
     let front = front_ok(t, p, k);
     let bits = all_bits_ok(t, p, k);
-    let boxes = boxes_ok(t, p, k);
-    let datas = datas_ok(t, p, k);
-    let times = times_ok(t, p, k);
+    let boxes = boxes_ok(t, p, k, row);
+    let datas = datas_ok(t, p, k, row);
+    let times = times_ok(t, p, k, row);
     front & (bits & (boxes & (datas & times)))
 }
 
-// ---- the rules that count over a whole column, or follow what one names
+// The same, by a row that is made here.
+fn early_ok(t: &[u64], p: &[u8], k: Caps) -> bool
+    requires { ⌜ Room k (now t) (now p) ⌝ }
+    ensures { λ r. ⌜ r ≡ test (earlyRules k (view k (now (t .entry)) (now (p .entry)))) ⌝ }
+{
+    let mut row = [0u8; PLACES];
+    stand(column(t, p, k, STATE), &mut row);
+    plain_ok(t, p, k, &row)
+}
+
+// ---- the rules that count over a whole column
 fn late_ok(t: &[u64], p: &[u8], k: Caps) -> bool
     requires { ⌜ Room k (now t) (now p) × Holds (plainRules k (view k (now t) (now p))) ⌝ }
-    ensures { λ r. ⌜ r ≡ test (lateRules k (view k (now (t .entry)) (now (p .entry)))) ⌝ }
+    ensures { λ r. ⌜ r ≡ test (countRules k (view k (now (t .entry)) (now (p .entry)))) ⌝ }
 {
     let once = once_ok(t, p, k);
-    let arrived = arrived_ok(t, p, k);
-    let held = held_ok(t, p, k);
-    let pairs = every(t, p, k, Kind::Pair, k.links as u64);
-    let filters = every(t, p, k, Kind::Filter, k.mails as u64);
-    (once & arrived) & (held & (pairs & filters))
+    let counted = counted_ok(t, p, k);
+    once & counted
 }
 
 // ---- all of them
@@ -192,7 +199,7 @@ fn rules_ok(t: &[u64], p: &[u8], k: Caps) -> bool
     requires { ⌜ Room k (now t) (now p) ⌝ }
     ensures { λ r. ⌜ r ≡ test (both (plainRules k (view k (now (t .entry)) (now (p .entry)))) (lateRules k (view k (now (t .entry)) (now (p .entry))))) ⌝ }
 {
-    if plain_ok(t, p, k) {
+    if early_ok(t, p, k) {
         return late_ok(t, p, k);
     }
     false
