@@ -5,24 +5,24 @@ use mathlib.Core.Bool.{Bool, true, false, _&&_, _||_}
 use mathlib.Core.List.{List, [], _∷_}
 use native.Mathlib.Numerals.{add-one}
 use native.Mathlib.Omega.{arith}
-use lib.ListN.{length, getD, set, take, drop, length-take, drop-of-length-le}
+use lib.ListN.{length, take, drop, length-take, drop-of-length-le}
 use lib.Seq.{set-out, sets}
 use lib.Dec.{eqb, ltb}
 use borrow.Author.Count.{below-more}
-use borrow.Author.Tests.{eqb-true, ltb-true, lt-ltb, le-ltb}
+use borrow.Author.Tests.{eqb-true, ltb-true, ltb-false, lt-ltb, le-ltb, eq-eqb, ne-eqb}
 use Rattle.pools.specs.Pool.{lowest}
 use Rattle.pools.proofs.BoolLaws.{split, and-right}
 use Rattle.pools.proofs.PoolLaws.{lowest-found, lowest-none}
 use Rattle.records.specs.Bytes.{field, ofLe}
 use Rattle.tables.specs.declared.Caps.{Caps}
-use Rattle.tables.specs.Columns.{ARRIVED, PAYLOAD, QUEUED}
-use Rattle.tables.specs.Limits.{ENTRY-BYTES, HEADER-BYTES}
-use Rattle.tables.specs.State.{State, head, with-col, poke, cut, view}
-use Rattle.tables.specs.Action.{push, pull, takeBit, freeBit, write}
+use Rattle.tables.specs.Columns.{ARRIVED, PAYLOAD, PRIORITY, QUEUE, QUEUED}
+use Rattle.tables.specs.Limits.{ENTRY-BYTES, HEADER-BYTES, LEVELS}
+use Rattle.tables.specs.State.{State, at, head, with-col, poke, cut, view}
+use Rattle.tables.specs.Action.{push, takeBit, write}
 use Rattle.tables.proofs.ViewLaws.{payload-part}
 use Rattle.rules.specs.Terms.{headerAt}
-use Rattle.rules.specs.Actions.{dataFor, delist, enlist, fill, hasRoom, least, mailFor, unfill}
-use Rattle.rules.specs.Calls.{dropFirst, dropAll, firstHead, firstOf, levelHead}
+use Rattle.rules.specs.Actions.{dataFor, enlist, fill, hasRoom, least, mailFor}
+use Rattle.rules.specs.Calls.{firstHead}
 
 -- ---- the lowest
 -- a search for the lowest of N numbers that passes, which has found none below i; n is N, as the code has it
@@ -60,15 +60,80 @@ module _ (f : ℕ → Bool) (g : ℕ → ℕ) (n : ℕ) where
   least-same e = rw (add-one n) (rw e)
 
 -- ---- the first level
--- one turn of the search: a level before was not empty, or the next one's head is it
-module _ (s : State) (n : ℕ) where
-  pub first-same : firstHead s n < head s QUEUED → firstHead s (n + 1) ≡ firstHead s n
-  unfolding firstHead
-  first-same h = rw (add-one n, lt-ltb (firstHead s n) (head s QUEUED) h)
+-- the level of the i-th of the queue
+abbrev pub levelOf : State → ℕ → ℕ
+levelOf s i = at s PRIORITY (at s QUEUE i)
 
-  pub first-next : head s QUEUED ≤ firstHead s n → firstHead s (n + 1) ≡ levelHead s n
+module _ (s : State) where
+  -- none of the queue is of the levels below m
+  heads-none : (m : ℕ) → ((j : ℕ) → j < head s QUEUED → m ≤ levelOf s j) → firstHead s m ≡ head s QUEUED
   unfolding firstHead
-  first-next h = rw (add-one n, le-ltb (firstHead s n) (head s QUEUED) h)
+  heads-none zero h = refl
+  heads-none (suc m) h =
+      rw (heads-none m (λ j l. omega (arith, h j l)), le-ltb (head s QUEUED) (head s QUEUED) (omega arith))
+      (lowest-none (λ i. eqb (levelOf s i) m) (head s QUEUED) (λ j l. ne-eqb (levelOf s j) m (λ e. omega (arith, h j l))))
+
+  -- the i-th is of level b, none before it is of that level, and none at all is of one below
+  heads-first : (i b : ℕ) → i < head s QUEUED → levelOf s i ≡ b → ((j : ℕ) → j < i → b < levelOf s j) → ((j : ℕ) → j < head s QUEUED → b ≤ levelOf s j) → (m : ℕ) → b < m → firstHead s m ≡ i
+  unfolding firstHead
+  heads-first i b h e before least zero l = absurd (omega arith)
+  heads-first i b h e before least (suc m) l =
+      split (ltb b m)
+      (λ q. rw (heads-first i b h e before least m (ltb-true b m q), lt-ltb i (head s QUEUED) h))
+      (λ q. let o : b ≡ m = omega (arith, ltb-false b m q) in
+      rw (heads-none m (λ j g. omega (arith, least j g)), le-ltb (head s QUEUED) (head s QUEUED) (omega arith))
+      (lowest-found (λ i. eqb (levelOf s i) m) i (head s QUEUED) h (eq-eqb (levelOf s i) m (e ∙ o)) (λ j g. ne-eqb (levelOf s j) m (λ q. omega (arith, before j g)))))
+
+-- a search for the first of the least level among the n of the queue, which has passed i: it is of level `best`, and there is none yet where that is no level
+pub record Ahead (s : State) (n first best i : ℕ) : Type 0 where
+  pub within : i ≤ n
+  pub all : n ≡ head s QUEUED
+  pub above : 0 < best
+  pub most : best ≤ LEVELS
+  pub least : (j : ℕ) → j < i → best ≤ levelOf s j
+  pub none : LEVELS ≤ best → first ≡ n
+  pub found : best < LEVELS → (first < i) × (levelOf s first ≡ best) × ((j : ℕ) → j < first → best < levelOf s j)
+
+pub ahead-start : {s : State} {n : ℕ} → n ≡ head s QUEUED → Ahead s n n LEVELS 0
+ahead-start e = record { within = omega arith; all = e; above = omega arith; most = omega arith; least = λ j l. absurd (omega arith); none = λ l. refl; found = λ l. absurd (omega arith) }
+
+module _ {s : State} {n first best i : ℕ} (z : Ahead s n first best i) where
+  -- the i-th is of the first level of all
+  pub ahead-top : i < n → levelOf s i ≡ 0 → i ≡ firstHead s LEVELS
+  ahead-top h e = sym (heads-first s i 0 (omega (arith, z .all)) e (λ j l. omega (arith, z .above, z .least j l)) (λ j l. omega arith) LEVELS (omega arith))
+
+  -- it is of a level before the best so far
+  pub ahead-better : {level : ℕ} → i < n → level ≡ levelOf s i → 0 < level → level < best → Ahead s n i level (i + 1)
+  ahead-better {level} h e o l = record {
+    within = omega arith;
+    all = z .all;
+    above = o;
+    most = omega arith;
+    least = below-more (λ j. level ≤ levelOf s j) i (λ j g. omega (arith, z .least j g)) (omega arith);
+    none = λ g. absurd (omega arith);
+    found = λ g. (omega arith, sym e, λ j g. omega (arith, z .least j g));
+  }
+
+  -- it is not
+  pub ahead-on : i < n → best ≤ levelOf s i → Ahead s n first best (i + 1)
+  ahead-on h l = record {
+    within = omega arith;
+    all = z .all;
+    above = z .above;
+    most = z .most;
+    least = below-more (λ j. best ≤ levelOf s j) i (z .least) l;
+    none = z .none;
+    found = λ g. (omega (arith, z .found g .0), z .found g .1, z .found g .2);
+  }
+
+  -- all were passed
+  pub ahead-end : n ≤ i → first ≡ firstHead s LEVELS
+  ahead-end h =
+      let least : (j : ℕ) → j < head s QUEUED → best ≤ levelOf s j = λ j l. z .least j (omega (arith, z .all)) in
+      split (ltb best LEVELS)
+      (λ q. let f = z .found (ltb-true best LEVELS q) in
+      sym (heads-first s first best (omega (arith, f .0, z .all, z .within)) (f .1) (f .2) least LEVELS (ltb-true best LEVELS q)))
+      (λ q. let l = ltb-false best LEVELS q in z .none l ∙ z .all ∙ sym (heads-none s LEVELS (λ j g. omega (arith, least j g))))
 
 -- ---- the payload
 module _ (k : Caps) (w p : List ℕ) (d : ℕ) where
@@ -114,32 +179,3 @@ module _ (s : State) where
   pub enlist-queued : (e a d : ℕ) → head (enlist s e a d) QUEUED ≡ head s QUEUED
   unfolding enlist push takeBit poke with-col
   enlist-queued e a d = refl
-
-  -- a data entry freed leaves the arrivals'
-  unfill-arrived : (d : ℕ) → head (unfill s d) ARRIVED ≡ head s ARRIVED
-  unfolding unfill write freeBit poke with-col
-  unfill-arrived d = refl
-
-  -- one that leaves its mailbox makes them no more
-  delist-arrived : (j n : ℕ) → head s ARRIVED ≤ n → head (delist s j) ARRIVED ≤ n
-  unfolding delist pull freeBit poke with-col
-  delist-arrived j n h = fewer (s ARRIVED) h
-    where
-      fewer : (l : List ℕ) → getD l 0 0 ≤ n → getD (set l 0 (getD l 0 0 - 1)) 0 0 ≤ n
-      fewer [] g = g
-      fewer (x ∷ l) g = omega arith
-
--- ---- a mailbox emptied
--- the arrivals become no more
-pub drop-arrived : (s : State) (a n : ℕ) → head s ARRIVED ≤ n → head (dropFirst s a) ARRIVED ≤ n
-unfolding dropFirst
-drop-arrived s a n h =
-    split (ltb (firstOf s a) (head s ARRIVED))
-    (λ q. rw q (rw (unfill-arrived (delist s (firstOf s a))) (delist-arrived s (firstOf s a) n h)))
-    (λ q. rw q h)
-
--- one of m messages
-pub drop-step : (s : State) (a m : ℕ) → 0 < m → dropAll m s a ≡ dropAll (m - 1) (dropFirst s a) a
-unfolding dropAll
-drop-step s a zero h = absurd (omega arith)
-drop-step s a (suc m) h = let e : suc m - 1 ≡ m = omega arith in rw e

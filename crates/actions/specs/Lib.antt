@@ -1,1 +1,3 @@
--- Definitions that the contracts cite: none beyond those of the crates below.
+-- Definitions that the contracts cite, beside those of the crates below.
+pub mod Emptying
+pub mod Times

@@ -10,6 +10,7 @@ ghost use Rattle.tables.specs.State.{at, head, poke, view, Room, Left};
 ghost use Rattle.tables.specs.Action.{takeBit, freeBit, write, blank};
 ghost use Rattle.rules.specs.Terms.{header, wants, fits};
 ghost use Rattle.rules.specs.Actions.{fill, unfill, enlist, delist, hears, stir, hasRoom, post, letGo};
+ghost use Rattle.actions.specs.Emptying.{disown};
 use crate::room::data_for;
 use crate::room::mail_for;
 use crate::running::wake;
@@ -140,15 +141,23 @@ pub fn enlist(t: &mut [u64], p: &[u8], k: Caps, e: u64, a: u64, d: u64)
     push(t, p, k, ARRIVAL, ARRIVED, e);
 }
 
+// Mailbox entry e is freed: it is nobody's, and names no data entry.
+pub fn disown(t: &mut [u64], p: &[u8], k: Caps, e: u64)
+    requires { ⌜ Room k (now t) (now p) ⌝ }
+    ensures { λ _. ⌜ Left k (disown (view k (now (t .entry)) (now (p .entry))) e) (now (t .exit)) (now (p .entry)) ⌝ }
+{
+    free_bit(t, p, k, MAIL_FREE, e);
+    put(t, p, k, MAIL_OWNER, e, 0);
+    put(t, p, k, MAIL_DATA, e, 0);
+}
+
 // The mailbox entry that arrived as the j-th leaves its mailbox and is freed.
 pub fn delist(t: &mut [u64], p: &[u8], k: Caps, j: u64)
     requires { ⌜ Room k (now t) (now p) × (j < head (view k (now t) (now p)) ARRIVED) × (head (view k (now t) (now p)) ARRIVED ≤ k .mails) ⌝ }
     ensures { λ _. ⌜ Left k (delist (view k (now (t .entry)) (now (p .entry))) j) (now (t .exit)) (now (p .entry)) ⌝ }
 {
     let e = get(t, p, k, ARRIVAL, j);
-    free_bit(t, p, k, MAIL_FREE, e);
-    put(t, p, k, MAIL_OWNER, e, 0);
-    put(t, p, k, MAIL_DATA, e, 0);
+    disown(t, p, k, e);
     pull(t, p, k, ARRIVAL, ARRIVED, j);
 }
 

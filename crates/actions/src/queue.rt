@@ -8,7 +8,7 @@ ghost use Rattle.tables.specs.Columns.{ARRIVAL, MAIL-OWNER, PRIORITY, QUEUE, SE
 ghost use Rattle.tables.specs.Limits.{LEVELS, SAFE};
 ghost use Rattle.tables.specs.State.{at, view, Room};
 ghost use Rattle.rules.specs.Terms.{fits, header};
-ghost use Rattle.rules.specs.Calls.{levelHead, firstHead, matchAt, firstMatch, dataOf, firstOf};
+ghost use Rattle.rules.specs.Calls.{firstHead, matchAt, firstMatch, dataOf};
 use crate::messages::fits;
 use crate::messages::header_at;
 use records::header::class_of;
@@ -25,29 +25,13 @@ use tables::columns::SENDER;
 use tables::limits::LEVELS;
 use tables::words::get;
 
-// Is the i-th of the queue of this level?
-fn at_level(t: &[u64], p: &[u8], k: Caps, level: u64, i: u64) -> bool
+// The level of the i-th of the queue.
+fn level_of(t: &[u64], p: &[u8], k: Caps, i: u64) -> u64
     requires { ⌜ Room k (now t) (now p) ⌝ }
-    ensures { λ r. ⌜ r ≡ eqb (at (view k (now (t .entry)) (now (p .entry))) PRIORITY (at (view k (now (t .entry)) (now (p .entry))) QUEUE i)) level ⌝ }
+    ensures { λ r. ⌜ r ≡ at (view k (now (t .entry)) (now (p .entry))) PRIORITY (at (view k (now (t .entry)) (now (p .entry))) QUEUE i) ⌝ }
 {
     let a = get(t, p, k, QUEUE, i);
-    get(t, p, k, PRIORITY, a) == level
-}
-
-// The place in the queue of the head of a level; past the queue where the level is empty.
-pub fn level_head(t: &[u64], p: &[u8], k: Caps, level: u64) -> u64
-    requires { ⌜ Room k (now t) (now p) ⌝ }
-    ensures { λ r. ⌜ r ≡ levelHead (view k (now (t .entry)) (now (p .entry))) level ⌝ }
-{
-    let n = get(t, p, k, QUEUED, 0);
-    let mut i: u64 = 0;
-    while i < n {
-        if at_level(t, p, k, level, i) {
-            return i;
-        }
-        i += 1;
-    }
-    n
+    get(t, p, k, PRIORITY, a)
 }
 
 // The place of the head of the first level that is not empty; past the queue where all are.
@@ -57,12 +41,18 @@ pub fn first_head(t: &[u64], p: &[u8], k: Caps) -> u64
 {
     let n = get(t, p, k, QUEUED, 0);
     let mut first = n;
-    let mut level: u64 = 0;
-    while level < LEVELS {
-        if n <= first {
-            first = level_head(t, p, k, level);
+    let mut best = LEVELS;
+    let mut i: u64 = 0;
+    while i < n {
+        let level = level_of(t, p, k, i);
+        if level == 0 {
+            return i;
         }
-        level += 1;
+        if level < best {
+            best = level;
+            first = i;
+        }
+        i += 1;
     }
     first
 }
@@ -81,7 +71,7 @@ pub fn data_of(t: &[u64], p: &[u8], k: Caps, j: u64) -> u64
 }
 
 // Is the i-th arrival slot a's?
-fn is_mine(t: &[u64], p: &[u8], k: Caps, a: u64, i: u64) -> bool
+pub fn is_mine(t: &[u64], p: &[u8], k: Caps, a: u64, i: u64) -> bool
     requires { ⌜ Room k (now t) (now p) × (a < SAFE) ⌝ }
     ensures { λ r. ⌜ r ≡ eqb (at (view k (now (t .entry)) (now (p .entry))) MAIL-OWNER (at (view k (now (t .entry)) (now (p .entry))) ARRIVAL i)) (suc a) ⌝ }
 {
@@ -111,9 +101,11 @@ fn match_at(t: &[u64], p: &[u8], k: Caps, a: u64, sender: u64, class: u64, tag: 
     requires { ⌜ Room k (now t) (now p) × (a < SAFE) ⌝ }
     ensures { λ r. ⌜ r ≡ matchAt (view k (now (t .entry)) (now (p .entry))) a sender class tag i ⌝ }
 {
-    let mine = is_mine(t, p, k, a, i);
-    let d = data_of(t, p, k, i);
-    mine & fits_entry(t, p, k, sender, class, tag, d)
+    if is_mine(t, p, k, a, i) {
+        let d = data_of(t, p, k, i);
+        return fits_entry(t, p, k, sender, class, tag, d);
+    }
+    false
 }
 
 // The first arrival of slot a that the filter matches; past the arrivals where there is none.
@@ -125,22 +117,6 @@ pub fn first_match(t: &[u64], p: &[u8], k: Caps, a: u64, sender: u64, class: u64
     let mut i: u64 = 0;
     while i < n {
         if match_at(t, p, k, a, sender, class, tag, i) {
-            return i;
-        }
-        i += 1;
-    }
-    n
-}
-
-// The first arrival of slot a; past the arrivals where there is none.
-pub fn first_of(t: &[u64], p: &[u8], k: Caps, a: u64) -> u64
-    requires { ⌜ Room k (now t) (now p) × (a < SAFE) ⌝ }
-    ensures { λ r. ⌜ r ≡ firstOf (view k (now (t .entry)) (now (p .entry))) a ⌝ }
-{
-    let n = get(t, p, k, ARRIVED, 0);
-    let mut i: u64 = 0;
-    while i < n {
-        if is_mine(t, p, k, a, i) {
             return i;
         }
         i += 1;

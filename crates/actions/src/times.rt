@@ -1,47 +1,43 @@
 // The entry with the earliest time.
 ghost use mathlib.Core.Path.{_≡_};
-ghost use mathlib.Core.Bool.{_||_};
-ghost use Prim.Native.Nat.{_-_, _<_};
-ghost use lib.Dec.{eqb, ltb};
+ghost use Prim.Native.Nat.{_<_, _≤_};
+ghost use lib.ListN.{length};
 ghost use Rattle.tables.specs.Columns.{REST};
-ghost use Rattle.tables.specs.State.{at, view, Room};
-ghost use Rattle.rules.specs.Actions.{due, earliest};
+ghost use Rattle.tables.specs.State.{size, view, Room};
+ghost use Rattle.rules.specs.Actions.{earliest};
+ghost use Rattle.actions.specs.Times.{earliestIn};
 use tables::Caps;
-use tables::words::get;
+use tables::words::column;
 
-// Is entry i in use, by the column `used`, and its time at or before a limit?
-fn due(t: &[u64], p: &[u8], k: Caps, used: usize, time: usize, limit: u64, i: u64) -> bool
-    requires { ⌜ Room k (now t) (now p) × (used < REST) × (time < REST) ⌝ }
-    ensures { λ r. ⌜ r ≡ due (view k (now (t .entry)) (now (p .entry))) used time limit i ⌝ }
+// Of the first n entries, in use by their words and with a time at or before a limit, the one with the earliest time, one up; of equal ones the lowest. 0 where there is none.
+fn earliest_in(used: &[u64], time: &[u64], limit: u64, n: usize) -> u64
+    requires { ⌜ (n ≤ length (now used)) × (n ≤ length (now time)) ⌝ }
+    ensures { λ r. ⌜ r ≡ earliestIn (now (used .entry)) (now (time .entry)) limit n ⌝ }
 {
-    let word = get(t, p, k, used, i);
-    let when = get(t, p, k, time, i);
-    !(word == 0) & (when <= limit)
-}
-
-// Does entry i come before the best so far, which is written one up, with 0 for none?
-fn comes_first(t: &[u64], p: &[u8], k: Caps, time: usize, best: u64, i: u64) -> bool
-    requires { ⌜ Room k (now t) (now p) × (time < REST) ⌝ }
-    ensures { λ r. ⌜ r ≡ (eqb best 0 || ltb (at (view k (now (t .entry)) (now (p .entry))) time i) (at (view k (now (t .entry)) (now (p .entry))) time (best - 1))) ⌝ }
-{
-    if best == 0 {
-        return true;
+    let mut best: usize = 0;
+    let mut first: u64 = 0;
+    let mut i: usize = 0;
+    while i < n {
+        let word = used[i];
+        let when = time[i];
+        if (!(word == 0) & (when <= limit)) & ((best == 0) | (when < first)) {
+            best = i + 1;
+            first = when;
+        }
+        i += 1;
     }
-    get(t, p, k, time, i) < get(t, p, k, time, best - 1)
+    best as u64
 }
 
 // Of the first n entries the one with the earliest time, one up; of equal ones the lowest. 0 where none is due.
 pub fn earliest(t: &[u64], p: &[u8], k: Caps, used: usize, time: usize, limit: u64, n: u64) -> u64
-    requires { ⌜ Room k (now t) (now p) × (used < REST) × (time < REST) ⌝ }
+    requires { ⌜ Room k (now t) (now p) × (used < REST) × (time < REST) × (n ≤ size k used) × (n ≤ size k time) ⌝ }
     ensures { λ r. ⌜ r ≡ earliest (view k (now (t .entry)) (now (p .entry))) used time limit n ⌝ }
 {
-    let mut best: u64 = 0;
-    let mut i: u64 = 0;
-    while i < n {
-        if due(t, p, k, used, time, limit, i) & comes_first(t, p, k, time, best, i) {
-            best = i + 1;
-        }
-        i += 1;
-    }
-    best
+    earliest_in(
+        column(t, p, k, used),
+        column(t, p, k, time),
+        limit,
+        n as usize,
+    )
 }

@@ -1,10 +1,10 @@
 // How long the host may sleep while nobody can run.
 ghost use mathlib.Core.Path.{_≡_};
-ghost use Prim.Native.Nat.{_-_, _<_, _^_};
+ghost use Prim.Native.Nat.{_-_, _<_, _≤_, _^_};
 ghost use lib.IntN.{pos};
 ghost use Rattle.tables.specs.Columns.{REST};
 ghost use Rattle.tables.specs.Limits.{ALWAYS};
-ghost use Rattle.tables.specs.State.{at, view, Room};
+ghost use Rattle.tables.specs.State.{at, size, view, Room};
 ghost use Rattle.rules.specs.Sound.{Ready};
 ghost use Rattle.rules.specs.Actions.{earliest};
 ghost use Rattle.rules.specs.Calls.{sleep, sleepFor};
@@ -35,7 +35,7 @@ fn down(i: u64) -> u64
 
 // The earliest of the first n entries in use.
 fn soonest(t: &[u64], p: &[u8], k: Caps, used: usize, time: usize, n: u64) -> Soon
-    requires { ⌜ Room k (now t) (now p) × (used < REST) × (time < REST) ⌝ }
+    requires { ⌜ Room k (now t) (now p) × (used < REST) × (time < REST) × (n ≤ size k used) × (n ≤ size k time) ⌝ }
     ensures { λ r. ⌜ (r .entry ≡ earliest (view k (now (t .entry)) (now (p .entry))) used time ALWAYS n) × (r .time ≡ at (view k (now (t .entry)) (now (p .entry))) time (earliest (view k (now (t .entry)) (now (p .entry))) used time ALWAYS n - 1)) ⌝ }
 {
     let entry = earliest(t, p, k, used, time, ALWAYS, n);

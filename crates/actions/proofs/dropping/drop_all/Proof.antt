@@ -1,50 +1,57 @@
--- What is left to drop of the present state is what was to drop of the first. Assumes nothing.
-use Prim.Native.Nat.{_≤_}
-use mathlib.Core.Path.{_≡_, refl, sym, _∙_}
+-- The mailbox is being emptied, and i arrivals were passed. Assumes nothing.
+use Prim.Native.Nat.{_-_}
+use mathlib.Core.Path.{_≡_, refl}
 use native.Mathlib.Omega.{arith}
 use lib.ListN.{length}
-use Rattle.tables.specs.Columns.{ARRIVED}
-use Rattle.tables.specs.State.{head, view, Room}
-use Rattle.rules.specs.Calls.{dropAll}
-use Rattle.actions.proofs.ActionLaws.{drop-arrived, drop-step}
+use Rattle.tables.specs.Columns.{ARRIVAL, ARRIVED}
+use Rattle.tables.specs.State.{view, Room}
+use Rattle.tables.proofs.ViewLaws.{view-full}
+use Rattle.actions.proofs.DropLaws.{Emptying, pass-start, pass-turn, pass-end}
 use borrow.Author.Needs.{needs}
 use Rattle.actions.proofs.dropping.drop_all.Statement.{statement}
 use Rattle.actions.proofs.dropping.drop_all.Tie as tie
 
 abbrev Inv-loop : tie.InvT-loop
-Inv-loop t₀ p₀ k a m left₀ t p left = Room k t p × (head (view k t p) ARRIVED ≤ k .mails) × (dropAll left (view k t p) a ≡ dropAll m (view k t₀ p₀) a) × (length t ≡ length t₀) × (length p ≡ length p₀)
+Inv-loop t₀ p₀ k a n kept₀ i₀ t p kept i = Room k t p × Emptying (view k t₀ p₀) a (view k t p) n kept i × (length t ≡ length t₀) × (length p ≡ length p₀)
 
 abbrev μ-loop : tie.MeasureT-loop
-μ-loop t₀ p₀ k a m left₀ t p left = left
+μ-loop t₀ p₀ k a n kept₀ i₀ t p kept i = n - i
 
 loop-holds : tie.Need-loop-holds Inv-loop μ-loop
-loop-holds c = (search needs, search needs, refl, refl, refl)
+loop-holds c =
+    let s = c .before .before .before .before .before in
+    let a = s .args in
+    let long = view-full (a .k) (a .t .now) (a .p .now) (s .pre .0 .words) in
+    let z = pass-start (view (a .k) (a .t .now) (a .p .now)) (a .a) (c .get .result) (c .get .ensures) (omega (arith, c .get .ensures, s .pre .2, long ARRIVAL (omega arith))) (omega (arith, long ARRIVED (omega arith))) in
+    (s .pre .0, z, refl, refl)
 
-drop-first-requires : tie.Need-drop-first-requires Inv-loop μ-loop
-drop-first-requires c κs =
-    let c1 = c .before .before .before in
-    let c2 = c1 .before .before .before in
-    (c1 .loop .inv .0, c2 .pre .1, c1 .loop .inv .1)
+sift-requires : tie.Need-sift-requires Inv-loop μ-loop
+sift-requires c κs =
+    let l = c .before .before .before .loop in
+    let g = c .before .before .before .before .get in
+    let s = c .before .before .before .before .before .before .before .before .before in
+    (l .inv .0, s .pre .1, omega (arith, l .inv .1 .stay, c .before .before .loop-test, g .ensures, s .pre .2, l .inv .0 .caps .fewMails))
 
 loop-again : tie.Need-loop-again Inv-loop μ-loop
 loop-again c =
-    let c1 = c .before .before .before .before in
-    let c2 = c1 .before .before .before .before in
-    let c3 = c2 .before .before .before in
-    let a = c3 .args in
-    let l = c2 .loop in
-    let d = c1 .drop-first in
-    let s = view (a .k) (l .t) (l .p) in (
-      d .ensures .room,
-      rw (d .ensures .is) (drop-arrived s (a .a) (a .k .mails) (l .inv .1)),
-      rw (d .ensures .is) (sym (drop-step s (a .a) (l .left) (omega arith)) ∙ l .inv .2),
-      search needs,
-      search needs,
-    )
+    let f = c .before .before .before .before .sift in
+    let c1 = c .before .before .before .before .before .before .before in
+    let z = pass-turn (c1 .before .loop .inv .1) (omega arith) (f .result) (f .ensures .stay) in
+    (f .ensures .left .room, rw (f .ensures .left .is) z, search needs, search needs)
+
+cut-back-requires : tie.Need-cut-back-requires Inv-loop μ-loop
+cut-back-requires c κs =
+    let l = c .before .before .before .loop in
+    let g = c .before .before .before .before .get in
+    let s = c .before .before .before .before .before .before .before .before .before in
+    (l .inv .0, omega (arith, l .inv .1 .all, l .inv .1 .stay, l .inv .1 .within), omega (arith, l .inv .1 .all, g .ensures, s .pre .2))
 
 returns : tie.Need-returns Inv-loop μ-loop
-unfolding dropAll
-returns c = let e : c .before .loop .left ≡ 0 = omega arith in record { is = rw e at (c .before .loop .inv .2); room = c .before .loop .inv .0 }
+returns c =
+    let d = c .before .before .cut-back .ensures in
+    let z = c .before .before .before .before .before .before .loop .inv .1 in
+    let g = c .before .before .before .before .before .before .before .get in
+    record { is = rw (d .is, z .all, ← g .ensures) (pass-end z (omega arith)); room = d .room }
 
 pub drop-all-spec : {M : Type 1} → statement M
-drop-all-spec = tie.close (tie.spec Inv-loop μ-loop loop-holds drop-first-requires (λ c. search needs) (λ c. search needs) loop-again (λ c. search needs) (λ c. search needs) returns)
+drop-all-spec = tie.close (tie.spec Inv-loop μ-loop (λ c κs. search needs) loop-holds sift-requires (λ c. search needs) (λ c. search needs) loop-again cut-back-requires (λ c. search needs) (λ c. search needs) returns)
