@@ -1,7 +1,7 @@
 // Advance: the clock is raised, due timers fire, and the overdue wake.
 ghost use mathlib.Core.Path.{_≡_};
 ghost use mathlib.Core.Bool.{true};
-ghost use Prim.Native.Nat.{_<_};
+ghost use Prim.Native.Nat.{_≤_, _<_};
 ghost use Rattle.records.specs.Header.{packed};
 ghost use Rattle.records.specs.Records.{tickBytes};
 ghost use Rattle.tables.specs.Limits.{SAFE};
@@ -11,6 +11,8 @@ ghost use Rattle.rules.specs.Actions.{hasRoom, post};
 ghost use Rattle.rules.specs.Calls.{advanceEntry, fire, fireAll, fired, rouse, ruled};
 ghost use Rattle.rules.specs.Host.{Gives};
 ghost use Rattle.endings.specs.Asked.{Short, Fires, Raised};
+ghost use Rattle.endings.specs.Order.{Waiting};
+use crate::order::due_timers;
 use actions::messages::post;
 use actions::room::has_room;
 use actions::running::wake;
@@ -23,11 +25,11 @@ use rules::states::TIMEOUT;
 use tables::Caps;
 use tables::columns::CLOCK;
 use tables::columns::DEADLINE;
-use tables::columns::DUE;
 use tables::columns::TIMER_AGE;
 use tables::columns::TIMER_OWNER;
 use tables::limits::CLOCK_END;
 use tables::limits::LONGEST;
+use tables::limits::MOST_TIMERS;
 use tables::limits::TIMER_FACTOR;
 use tables::words::get;
 use tables::words::put;
@@ -57,24 +59,33 @@ fn fire(t: &mut [u64], p: &mut [u8], k: Caps, i: u64)
     send_tick(t, p, k, owner - 1, (age * TIMER_FACTOR + i) as u32);
 }
 
+// The due timers, which are the first m of a row, fire from the last on, while both message pools have room. How many did?
+fn fire_row(t: &mut [u64], p: &mut [u8], k: Caps, row: &[u64; MOST_TIMERS], m: usize) -> u64
+    requires { ⌜ Room k (now t) (now p) × Raised k (view k (now t) (now p)) × Waiting k (view k (now t) (now p)) m (now row) × (m ≤ k .timers) ⌝ }
+    ensures { λ r. ⌜ (r ≡ fireAll k (k .timers) (fired 0 (view k (now (t .entry)) (now (p .entry)))) .count) × Left k (fireAll k (k .timers) (fired 0 (view k (now (t .entry)) (now (p .entry)))) .state) (now (t .exit)) (now (p .exit)) ⌝ }
+{
+    let mut left = m;
+    let mut count: u64 = 0;
+    while 0 < left {
+        if !has_room(t, p, k) {
+            return count;
+        }
+        left -= 1;
+        fire(t, p, k, row[left]);
+        count += 1;
+    }
+    count
+}
+
 // The due timers fire, by due time, equal ones by lower slot, while both message pools have room. How many did?
 fn fire_all(t: &mut [u64], p: &mut [u8], k: Caps) -> u64
     requires { ⌜ Room k (now t) (now p) × Raised k (view k (now t) (now p)) ⌝ }
     ensures { λ r. ⌜ (r ≡ fireAll k (k .timers) (fired 0 (view k (now (t .entry)) (now (p .entry)))) .count) × Left k (fireAll k (k .timers) (fired 0 (view k (now (t .entry)) (now (p .entry)))) .state) (now (t .exit)) (now (p .exit)) ⌝ }
 {
     let clock = get(t, p, k, CLOCK, 0);
-    let n = k.timers as u64;
-    let mut count: u64 = 0;
-    while count < n {
-        let i = earliest(t, p, k, TIMER_OWNER, DUE, clock, n);
-        let roomy = has_room(t, p, k);
-        if !(!(i == 0) & roomy) {
-            return count;
-        }
-        fire(t, p, k, i - 1);
-        count += 1;
-    }
-    count
+    let mut row = [0u64; MOST_TIMERS];
+    let m = due_timers(t, p, k, clock, &mut row);
+    fire_row(t, p, k, &row, m)
 }
 
 // ---- deadlines

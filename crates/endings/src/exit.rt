@@ -20,7 +20,6 @@ use actions::messages::let_go;
 use rules::Ended;
 use tables::Caps;
 use tables::columns::AGE;
-use tables::columns::ARRIVED;
 use tables::columns::RUNNING;
 use tables::limits::ACTOR_FACTOR;
 use tables::limits::LAST_REASON;
@@ -31,9 +30,8 @@ fn farewell(t: &mut [u64], p: &mut [u8], k: Caps, a: u64, me: u32, reason: u16) 
     requires { ⌜ Room k (now t) (now p) × Good k (view k (now t) (now p)) × (runner (view k (now t) (now p)) ≡ suc a) × (actorId (view k (now t) (now p)) a ≡ me) ⌝ }
     ensures { λ r. ⌜ Tells k (farewell k a me reason (view k (now (t .entry)) (now (p .entry)))) r (now (t .exit)) (now (p .exit)) ⌝ }
 {
-    let m = get(t, p, k, ARRIVED, 0);
     let_go(t, p, k, a);
-    drop_all(t, p, k, a, m);
+    drop_all(t, p, k, a);
     let n = cut_links(t, p, k, a, me, reason);
     cut_monitors(t, p, k, n, a, me, reason)
 }

@@ -3,3 +3,5 @@ pub mod advance;
 pub mod exit;
 pub mod leaving;
 pub mod notices;
+mod order;
+mod partners;

@@ -2,16 +2,18 @@
 ghost use mathlib.Core.Path.{_≡_};
 ghost use mathlib.Core.Bool.{true};
 ghost use Prim.Native.Nat.{suc, _<_};
+ghost use lib.ListN.{getD};
 ghost use Rattle.records.specs.Header.{packed};
 ghost use Rattle.records.specs.Records.{exitBytes};
 ghost use Rattle.tables.specs.Columns.{WATCHED};
 ghost use Rattle.tables.specs.Limits.{MOST-ACTORS, SAFE};
 ghost use Rattle.tables.specs.State.{at, view, Room, Left};
 ghost use Rattle.rules.specs.Actions.{hasRoom, post};
-ghost use Rattle.rules.specs.Calls.{cutLink, cutLinks, cutMonitor, cutMonitors, tell, told};
+ghost use Rattle.rules.specs.Calls.{cutLinks, cutMonitor, cutMonitors, tell, told};
 ghost use Rattle.endings.specs.Asked.{Short, Going};
 ghost use Rattle.endings.specs.Counted.{Few, Tells, toldOf};
-use actions::links::link_of;
+ghost use Rattle.endings.specs.Partners.{cutEntry};
+use crate::partners::partners;
 use actions::links::tie;
 use actions::messages::post;
 use actions::monitors::unwatch;
@@ -23,6 +25,7 @@ use tables::columns::MONITOR_AGE;
 use tables::columns::WATCHED;
 use tables::columns::WATCHER;
 use tables::limits::MONITOR_FACTOR;
+use tables::limits::MOST_ACTORS;
 use tables::words::get;
 
 // The class of an exit notice.
@@ -72,26 +75,26 @@ fn tell(
 }
 
 // ---- links
-// The link of slot a with slot b ends, if there is one, and b is told.
+// The link with slot b ends, if the row of links has one there, and b is told.
 fn cut_link(
     t: &mut [u64],
     p: &mut [u8],
     k: Caps,
     n: Count,
-    a: u64,
     me: u32,
     reason: u16,
     b: u64,
+    row: &[u64; MOST_ACTORS],
 ) -> Count
-    requires { ⌜ Room k (now t) (now p) × Going k a me (view k (now t) (now p)) × (b < k .actors) × Few n SAFE ⌝ }
-    ensures { λ r. ⌜ Tells k (cutLink k a me reason b (toldOf n (view k (now (t .entry)) (now (p .entry))))) r (now (t .exit)) (now (p .exit)) ⌝ }
+    requires { ⌜ Room k (now t) (now p) × Short (view k (now t) (now p)) × (b < MOST-ACTORS) × Few n SAFE ⌝ }
+    ensures { λ r. ⌜ Tells k (cutEntry k me reason b (getD (now (row .entry)) b 0) (toldOf n (view k (now (t .entry)) (now (p .entry))))) r (now (t .exit)) (now (p .exit)) ⌝ }
 {
-    let e = link_of(t, p, k, a + 1, b + 1);
-    if e < k.links as u64 {
-        tie(t, p, k, e, 0, 0);
-        return tell(t, p, k, n, b, me, reason, 0);
+    let e = row[b as usize];
+    if e == 0 {
+        return n;
     }
-    n
+    tie(t, p, k, e - 1, 0, 0);
+    tell(t, p, k, n, b, me, reason, 0)
 }
 
 // All links of slot a end, by ascending partner slot.
@@ -100,10 +103,11 @@ pub fn cut_links(t: &mut [u64], p: &mut [u8], k: Caps, a: u64, me: u32, reason: 
     ensures { λ r. ⌜ Tells k (cutLinks k a me reason (k .actors) (told 0 0 (view k (now (t .entry)) (now (p .entry))))) r (now (t .exit)) (now (p .exit)) × Few r MOST-ACTORS ⌝ }
 {
     let slots = k.actors as u64;
+    let row = partners(t, p, k, a + 1);
     let mut n = Count { sent: 0, lost: 0 };
     let mut b: u64 = 0;
     while b < slots {
-        n = cut_link(t, p, k, n, a, me, reason, b);
+        n = cut_link(t, p, k, n, me, reason, b, &row);
         b += 1;
     }
     n
