@@ -9,7 +9,7 @@ use Rattle.pools.specs.Bits.{bit, cleared, marked}
 use Rattle.pools.proofs.BitLaws.{bit-zero, bit-suc, bit-cases, cleared-from}
 
 -- the mask of one bit takes that bit out
-and-bit : (x k : ℕ) → bitAnd x (2 ^ k) ≡ bit x k * 2 ^ k
+pub and-bit : (x k : ℕ) → bitAnd x (2 ^ k) ≡ bit x k * 2 ^ k
 and-bit x zero = and-mask x 1 ∙ sym (bit-zero x) ∙ sym (mul-one (bit x 0))
 and-bit x (suc k) =
     let half : 2 ^ suc k / 2 ≡ 2 ^ k = omega (arith, pow-suc 2 k) in

@@ -1,21 +1,22 @@
 -- Entries marked in words of bits: one more, one after the other, all of them, and what the marks say of the lists that name them. Assumes nothing.
 use Prim.Native.Nat.{ℕ, zero, suc, _+_, _-_, _*_, _/_, _%_, _^_, _≤_, _<_, min}
 use native.Mathlib.Nat.{pow-suc, one-mul, zero-mul, mod-one, div-eq-of-lt}
-use native.Mathlib.Numerals.{add-one, one-add}
+use native.Mathlib.Numerals.{add-one}
 use native.Mathlib.Decide.{decLt, ℕ-discrete}
 use native.Mathlib.Omega.{arith}
 use mathlib.Core.Path.{_≡_, refl, sym, ap, _∙_}
 use mathlib.Core.Bool.{Bool, true, false, not, _&&_}
 use mathlib.Core.List.{List, [], _∷_, _++_}
 use mir.Val.{boolByte}
-use lib.Bits.{bitAnd, bitOr, and-high, and-mask, or-add-and, or-shifted-r}
+use lib.Bits.{bitAnd, bitOr, and-mask, or-shifted-r}
 use lib.Dec.{eqb, lit<}
 use lib.ListN.{length, getD, set, take, drop, length-take, length-drop, take-append-drop}
 use lib.Pow.{pow-pos, high, shl-exact, mod-pow-add}
 use lib.Seq.{take-suc, take-all, take-add, drop-drop, getD-take, getD-drop}
 use borrow.Author.Tests.{eqb-true, eqb-false, eq-eqb, ne-eqb, not-true, not-false}
-use Rattle.pools.specs.Bits.{WORD-BITS, bit, marked, free, released}
+use Rattle.pools.specs.Bits.{WORD-BITS, bit, free, released}
 use Rattle.pools.specs.Pool.{occurs}
+use Rattle.pools.proofs.MaskLaws.{and-bit, or-mark}
 use Rattle.pools.proofs.BitLaws.{bit-zero, bit-suc, bit-cases, add-other}
 use Rattle.pools.proofs.BoolLaws.{split, true-false, and-left, and-right, and-true, same-bool, flag≤, flag-not, flag-pos}
 use Rattle.pools.proofs.FreeLaws.{released-same, released-other, length-released}
@@ -35,24 +36,11 @@ use Rattle.sound.proofs.ListLaws.{same-rule}
 
 -- ---- one bit of a word, by masks
 module _ (x k : ℕ) where
-  and-bit : bitAnd x (2 ^ k) ≡ bit x k * 2 ^ k
-  and-bit =
-      let p : 2 ^ (1 + k) ≡ 2 ^ k * 2 = ap (λ (j : ℕ). 2 ^ j) (one-add k) ∙ pow-suc 2 k in
-      let e : 2 ^ k ≡ 2 ^ (1 + k) - 2 ^ k = omega (arith, p) in
-      ap (bitAnd x) e ∙ and-high x 1 k
-
   and-one : bit x k ≡ 1 → bitAnd x (2 ^ k) ≡ 2 ^ k
-  and-one e = and-bit ∙ ap (λ (y : ℕ). y * 2 ^ k) e ∙ one-mul (2 ^ k)
+  and-one e = and-bit x k ∙ ap (λ (y : ℕ). y * 2 ^ k) e ∙ one-mul (2 ^ k)
 
   and-zero : bit x k ≡ 0 → bitAnd x (2 ^ k) ≡ 0
-  and-zero e = and-bit ∙ ap (λ (y : ℕ). y * 2 ^ k) e ∙ zero-mul (2 ^ k)
-
-  pub or-bit : bitOr x (2 ^ k) ≡ marked x k
-  or-bit =
-      let sum : bitOr x (2 ^ k) + bitAnd x (2 ^ k) ≡ x + 2 ^ k = or-add-and x (2 ^ k) in
-      bit-cases x k
-      (λ e. rw e (omega (arith, sum, and-one e, zero-mul (2 ^ k))))
-      (λ e. rw e (omega (arith, sum, and-zero e, one-mul (2 ^ k))))
+  and-zero e = and-bit x k ∙ ap (λ (y : ℕ). y * 2 ^ k) e ∙ zero-mul (2 ^ k)
 
   pub and-none : eqb (bitAnd x (2 ^ k)) 0 ≡ not (eqb (bit x k) 1)
   and-none =
@@ -92,7 +80,7 @@ added-one seen x h = record {
 pub mark-one : (seen : List ℕ) (x b : ℕ) → b ≡ 2 ^ (x % WORD-BITS) → x / WORD-BITS < length seen →
     Added (λ d. boolByte (eqb x d)) (eqb (bitAnd (getD seen (x / WORD-BITS) 0) b) 0) seen (set seen (x / WORD-BITS) (bitOr (getD seen (x / WORD-BITS) 0) b))
 mark-one seen x b z h =
-    rw (z, and-none (getD seen (x / WORD-BITS) 0) (x % WORD-BITS), or-bit (getD seen (x / WORD-BITS) 0) (x % WORD-BITS)) (added-one seen x h)
+    rw (z, and-none (getD seen (x / WORD-BITS) 0) (x % WORD-BITS), or-mark (getD seen (x / WORD-BITS) 0) (x % WORD-BITS)) (added-one seen x h)
 
 -- the same as often
 pub added-as : {c d : ℕ → ℕ} {r : Bool} {seen seen′ : List ℕ} → ((e : ℕ) → c e ≡ d e) → Added c r seen seen′ → Added d r seen seen′

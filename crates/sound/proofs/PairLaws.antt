@@ -1,18 +1,17 @@
 -- The square of marks: what two marks more say of the pairs of links. Assumes nothing.
 use Prim.Native.Nat.{ℕ, suc, _+_, _-_, _*_, _/_, _%_, _^_, _≤_, _<_}
-use native.Mathlib.Nat.{one-mul, pow-suc}
-use native.Mathlib.Numerals.{one-add}
 use native.Mathlib.Omega.{arith}
 use mathlib.Core.Path.{_≡_, refl, sym, ap, _∙_}
 use mathlib.Core.Bool.{Bool, true, false, not, _&&_, _||_}
 use mathlib.Core.List.{List}
-use lib.Bits.{bitOr, bitAnd, or-add-and, and-high}
+use lib.Bits.{bitOr}
 use lib.ListN.{length, getD, set, replicate, length-replicate, getD-replicate}
 use lib.Dec.{eqb}
 use borrow.Author.Tests.{eqb-true, eqb-false, eq-eqb, ne-eqb}
-use Rattle.pools.specs.Bits.{bit, free, marked, released}
+use Rattle.pools.specs.Bits.{bit, free, released}
 use Rattle.pools.proofs.BoolLaws.{split, and-left, and-right, and-true, same-bool}
-use Rattle.pools.proofs.BitLaws.{bit-none, bit-cases, one-shl}
+use Rattle.pools.proofs.MaskLaws.{or-mark}
+use Rattle.pools.proofs.BitLaws.{bit-none, one-shl}
 use Rattle.pools.proofs.FreeLaws.{released-same, released-other, length-released}
 use Rattle.rules.specs.Rule.{test}
 use Rattle.rules.specs.Terms.{joins}
@@ -31,17 +30,8 @@ module _ (seen : List ℕ) (a b : ℕ) (h : b < 64) where
   pub bit-at : eqb (bit (getD seen a 0) b) 1 ≡ free seen (a * 64 + b)
   bit-at = rw (word-of, rest-of)
 
-  -- a bit joined to a word by OR is set there
-  or-marked : (x : ℕ) → bitOr x (2 ^ b) ≡ marked x b
-  or-marked x =
-      let q : 2 ^ (1 + b) - 2 ^ b ≡ 2 ^ b = rw (one-add b) (omega (arith, pow-suc 2 b)) in
-      let and-bit : bitAnd x (2 ^ b) ≡ bit x b * 2 ^ b = rw q at (and-high x 1 b) in
-      bit-cases x b
-      (λ e. rw e (omega (arith, or-add-and x (2 ^ b), rw (e, one-mul) at and-bit)))
-      (λ e. rw (e, one-mul) (omega (arith, or-add-and x (2 ^ b), rw e at and-bit)))
-
   pub mark-at : set seen a (bitOr (getD seen a 0) ((1 * 2 ^ b) % 2 ^ 64)) ≡ released seen (a * 64 + b)
-  mark-at = rw (word-of, rest-of, one-shl b h) (ap (λ (x : ℕ). set seen a x) (or-marked (getD seen a 0)))
+  mark-at = rw (word-of, rest-of, one-shl b h) (ap (λ (x : ℕ). set seen a x) (or-mark (getD seen a 0) b))
 
 -- ---- one bit more
 mark : (w : List ℕ) (x i : ℕ) → x / 64 < length w → free (released w x) i ≡ eqb i x || free w i
