@@ -1,27 +1,23 @@
--- What the actions' loops and branches turn on. Assumes nothing.
+-- What the actions' loops and branches turn on.
 use Prim.Native.Nat.{ℕ, zero, suc, _+_, _-_, _*_, _≤_, _<_}
-use mathlib.Core.Path.{_≡_, refl, sym, ap, _∙_, fun-ext}
+use mathlib.Core.Path.{_≡_, refl, sym, _∙_, fun-ext}
 use mathlib.Core.Bool.{Bool, true, false, _&&_, _||_}
 use mathlib.Core.List.{List, [], _∷_}
 use native.Mathlib.Numerals.{add-one}
 use native.Mathlib.Omega.{arith}
-use lib.ListN.{length, take, drop, length-take, drop-of-length-le}
+use lib.ListN.{length}
 use lib.Seq.{set-out, sets}
 use lib.Dec.{eqb, ltb}
 use borrow.Author.Count.{below-more}
 use borrow.Author.Tests.{eqb-true, ltb-true, ltb-false, lt-ltb, le-ltb, eq-eqb, ne-eqb}
 use Rattle.pools.specs.Pool.{lowest}
-use Rattle.pools.proofs.BoolLaws.{split, and-right}
+use Rattle.pools.proofs.BoolLaws.{split}
 use Rattle.pools.proofs.PoolLaws.{lowest-found, lowest-none}
-use Rattle.records.specs.Bytes.{field, ofLe}
-use Rattle.tables.specs.declared.Caps.{Caps}
 use Rattle.tables.specs.Columns.{ARRIVED, PAYLOAD, PRIORITY, QUEUE, QUEUED}
-use Rattle.tables.specs.Limits.{ENTRY-BYTES, HEADER-BYTES, LEVELS}
-use Rattle.tables.specs.State.{State, at, head, with-col, poke, cut, view}
+use Rattle.tables.specs.Limits.{ENTRY-BYTES, LEVELS}
+use Rattle.tables.specs.State.{State, at, head, with-col, poke}
 use Rattle.tables.specs.Action.{push, takeBit, write}
-use Rattle.tables.proofs.ViewLaws.{payload-part}
-use Rattle.rules.specs.Terms.{headerAt}
-use Rattle.rules.specs.Actions.{dataFor, enlist, fill, hasRoom, least, mailFor}
+use Rattle.rules.specs.Actions.{enlist, fill, least}
 use Rattle.rules.specs.Calls.{firstHead}
 
 -- ---- the lowest
@@ -136,19 +132,6 @@ module _ {s : State} {n first best i : ℕ} (z : Ahead s n first best i) where
       (λ q. let l = ltb-false best LEVELS q in z .none l ∙ z .all ∙ sym (heads-none s LEVELS (λ j g. omega (arith, least j g))))
 
 -- ---- the payload
-module _ (k : Caps) (w p : List ℕ) (d : ℕ) where
-  -- the header of an entry lies in the buffer
-  pub header-lies : d < k .datas → headerAt (view k w p PAYLOAD) d ≡ field HEADER-BYTES (ENTRY-BYTES * d) p
-  unfolding headerAt
-  header-lies h = ap ofLe (payload-part k w p (ENTRY-BYTES * d) HEADER-BYTES (omega arith))
-
-  -- past the last entry it is 0
-  pub header-past : k .datas ≤ d → headerAt (view k w p PAYLOAD) d ≡ 0
-  unfolding headerAt view cut
-  header-past h =
-      let e : drop (ENTRY-BYTES * d) (take (ENTRY-BYTES * k .datas) p) ≡ [] = drop-of-length-le (take (ENTRY-BYTES * k .datas) p) {i = ENTRY-BYTES * d} (omega (arith, length-take (ENTRY-BYTES * k .datas) p)) in
-      rw e
-
 -- stores past the end do nothing
 sets-out : (l : List ℕ) (i : ℕ) (m : List ℕ) → length l ≤ i → sets l i m ≡ l
 sets-out l i [] h = refl
@@ -158,11 +141,6 @@ sets-out l i (x ∷ m) h = rw (set-out l i x h) (sets-out l (suc i) m (omega ari
 pub write-out : (s : State) (d i : ℕ) (m : List ℕ) → length (s PAYLOAD) ≤ ENTRY-BYTES * d + i → write s d i m ≡ s
 unfolding write with-col
 write-out s d i m h = fun-ext (λ c. split (eqb c PAYLOAD) (λ q. rw (q, sets-out (s PAYLOAD) (ENTRY-BYTES * d + i) m h, eqb-true c PAYLOAD q)) (λ q. rw q))
-
--- ---- room for a message: there is a mailbox entry, and a data entry
-module _ (k : Caps) (s : State) (h : hasRoom k s ≡ true) where
-  pub room-data : dataFor k s < k .datas
-  room-data = ltb-true (dataFor k s) (k .datas) (and-right (ltb (mailFor k s) (k .mails)) (ltb (dataFor k s) (k .datas)) h)
 
 -- ---- the two counts of the head
 module _ (s : State) where

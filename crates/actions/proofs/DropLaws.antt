@@ -1,4 +1,4 @@
--- One pass over the arrivals empties a mailbox as the rule does, which drops its first message again and again. Assumes nothing.
+-- One pass over the arrivals empties a mailbox as the rule does, which drops its first message again and again.
 use Prim.Native.Nat.{ℕ, zero, suc, _+_, _-_, _≤_, _<_}
 use mathlib.Core.Path.{_≡_, refl, sym, ap, _∙_, fun-ext}
 use mathlib.Core.Bool.{true, false, cond}

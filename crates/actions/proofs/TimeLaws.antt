@@ -1,4 +1,4 @@
--- One turn of the search for the earliest entry. Assumes nothing.
+-- One turn of the search for the earliest entry.
 use Prim.Native.Nat.{ℕ, _+_, _-_}
 use mathlib.Core.Path.{_≡_, refl, sym, _∙_}
 use mathlib.Core.Bool.{true, false, _&&_, _||_}

@@ -1,14 +1,12 @@
--- One pass over the arrivals that empties a mailbox: what a turn of it does, and what it leaves. Assumes nothing.
+-- One pass over the arrivals that empties a mailbox: what a turn of it does, and what it leaves.
 use Prim.Native.Nat.{ℕ, suc, _+_, _-_}
-use mathlib.Core.Path.{_≡_}
 use mathlib.Core.Bool.{Bool, cond}
 use mathlib.Core.List.{List, _++_}
 use lib.ListN.{take, drop, replicate}
 use lib.Seq.{slice}
 use lib.Dec.{eqb}
-use Rattle.tables.specs.declared.Caps.{Caps}
 use Rattle.tables.specs.Columns.{ARRIVAL, ARRIVED, MAIL-DATA, MAIL-FREE, MAIL-OWNER}
-use Rattle.tables.specs.State.{State, at, head, with-col, poke, Left}
+use Rattle.tables.specs.State.{State, at, head, with-col, poke}
 use Rattle.tables.specs.Action.{freeBit}
 use Rattle.rules.specs.Actions.{unfill}
 use Rattle.rules.specs.Calls.{dataOf}
@@ -28,11 +26,6 @@ discard s i = unfill (disown s (at s ARRIVAL i)) (dataOf s i)
 -- a turn: the i-th arrival is freed if it is slot a's, and is the w-th that stays if not
 unfoldable pub sift : State → ℕ → ℕ → ℕ → State
 sift s a w i = cond (mine s a i) (discard s i) (poke s ARRIVAL w (at s ARRIVAL i))
-
--- with how many that stay, where there were w
-pub record Sifted (k : Caps) (s : State) (a w i r : ℕ) (t p : List ℕ) : Type 0 where
-  pub left : Left k (sift s a w i) t p
-  pub stay : r ≡ cond (mine s a i) w (w + 1)
 
 -- the n words of a list close up over those from the w-th on and before the i-th, and as many zeros come after them
 abbrev pub closedOver : ℕ → ℕ → ℕ → List ℕ → List ℕ

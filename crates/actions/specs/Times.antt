@@ -1,4 +1,4 @@
--- The earliest entry, by two columns alone. Assumes nothing.
+-- The earliest entry, by two columns alone.
 use Prim.Native.Nat.{ℕ}
 use mathlib.Core.Bool.{Bool, not, _&&_}
 use mathlib.Core.List.{List}

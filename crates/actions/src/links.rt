@@ -1,7 +1,6 @@
 // Links. The slots at both ends are written one up, as in the columns.
-ghost use mathlib.Core.Path.{_≡_};
 ghost use Rattle.tables.specs.Columns.{LINK-ONE, LINK-TWO};
-ghost use Rattle.tables.specs.State.{view, Room, Left};
+ghost use Rattle.tables.specs.State.{Room, Reads, Makes};
 ghost use Rattle.rules.specs.Terms.{joins};
 ghost use Rattle.rules.specs.Calls.{tie, linkOf};
 use tables::Caps;
@@ -13,7 +12,7 @@ use tables::words::put;
 // Entry e has the ends a and b; with 0 and 0 it is free.
 pub fn tie(t: &mut [u64], p: &[u8], k: Caps, e: u64, a: u64, b: u64)
     requires { ⌜ Room k (now t) (now p) ⌝ }
-    ensures { λ _. ⌜ Left k (tie (view k (now (t .entry)) (now (p .entry))) e a b) (now (t .exit)) (now (p .entry)) ⌝ }
+    ensures { λ _. ⌜ Makes k (λ s. tie s e a b) (now (t .entry)) (now (p .entry)) (now (t .exit)) (now (p .entry)) ⌝ }
 {
     put(t, p, k, LINK_ONE, e, a);
     put(t, p, k, LINK_TWO, e, b);
@@ -22,7 +21,7 @@ pub fn tie(t: &mut [u64], p: &[u8], k: Caps, e: u64, a: u64, b: u64)
 // Does entry e join a and b?
 fn joins(t: &[u64], p: &[u8], k: Caps, a: u64, b: u64, e: u64) -> bool
     requires { ⌜ Room k (now t) (now p) ⌝ }
-    ensures { λ r. ⌜ r ≡ joins (view k (now (t .entry)) (now (p .entry)) LINK-ONE) (view k (now (t .entry)) (now (p .entry)) LINK-TWO) a b e ⌝ }
+    ensures { λ r. ⌜ Reads k (λ s. joins (s LINK-ONE) (s LINK-TWO) a b e) (now (t .entry)) (now (p .entry)) r ⌝ }
 {
     let one = get(t, p, k, LINK_ONE, e);
     let two = get(t, p, k, LINK_TWO, e);
@@ -32,7 +31,7 @@ fn joins(t: &[u64], p: &[u8], k: Caps, a: u64, b: u64, e: u64) -> bool
 // The entry that joins a and b; past the last where there is none.
 pub fn link_of(t: &[u64], p: &[u8], k: Caps, a: u64, b: u64) -> u64
     requires { ⌜ Room k (now t) (now p) ⌝ }
-    ensures { λ r. ⌜ r ≡ linkOf k (view k (now (t .entry)) (now (p .entry))) a b ⌝ }
+    ensures { λ r. ⌜ Reads k (λ s. linkOf k s a b) (now (t .entry)) (now (p .entry)) r ⌝ }
 {
     let n = k.links as u64;
     let mut e: u64 = 0;

@@ -6,18 +6,18 @@ ghost use lib.ListN.{length};
 ghost use Rattle.records.specs.Bytes.{le};
 ghost use Rattle.tables.specs.Columns.{ARRIVED, DATA-FREE, LENGTH, QUEUED, SENDER, WANT-CLASS, WANT-SENDER, WANT-TAG};
 ghost use Rattle.tables.specs.Limits.{PAYLOAD-MOST, SAFE};
-ghost use Rattle.tables.specs.State.{at, head, poke, view, Room, Left};
+ghost use Rattle.tables.specs.State.{at, head, poke, Room, RoomWith, Reads, Makes};
 ghost use Rattle.tables.specs.Action.{takeBit, freeBit, write, blank};
-ghost use Rattle.rules.specs.Terms.{header, wants, fits};
+ghost use Rattle.rules.specs.Terms.{fits};
 ghost use Rattle.rules.specs.Actions.{fill, unfill, enlist, delist, hears, stir, hasRoom, post, letGo};
 ghost use Rattle.actions.specs.Emptying.{disown};
 use crate::room::data_for;
 use crate::room::mail_for;
 use crate::running::wake;
-use records::bytes::load32;
+use reading::filters::fits;
+use reading::headers::class_in;
+use reading::headers::tag_in;
 use records::bytes::store32;
-use records::header::class_of;
-use records::header::tag_of;
 use rules::states::MESSAGE;
 use rules::states::WAITS;
 use tables::Caps;
@@ -36,9 +36,6 @@ use tables::columns::WANT_SENDER;
 use tables::columns::WANT_TAG;
 use tables::free::free_bit;
 use tables::free::take_bit;
-use tables::limits::ANY_CLASS;
-use tables::limits::ANY_SENDER;
-use tables::limits::ANY_TAG;
 use tables::limits::ENTRY_BYTES;
 use tables::limits::HEADER_BYTES;
 use tables::lists::pull;
@@ -48,21 +45,10 @@ use tables::words::get;
 use tables::words::put;
 
 // ---- what a data entry holds
-// The header of data entry d; 0 past the last entry.
-pub fn header_at(t: &[u64], p: &[u8], k: Caps, d: u64) -> u32
-    requires { ⌜ Room k (now t) (now p) ⌝ }
-    ensures { λ r. ⌜ r ≡ header (view k (now (t .entry)) (now (p .entry))) d ⌝ }
-{
-    if d < k.datas as u64 {
-        return load32(p, ENTRY_BYTES * (d as usize));
-    }
-    0
-}
-
 // Data entry d is taken, and its words tell the sender and the length.
 fn mark(t: &mut [u64], p: &[u8], k: Caps, d: u64, sender: u64, length: u64)
     requires { ⌜ Room k (now t) (now p) ⌝ }
-    ensures { λ _. ⌜ Left k (poke (poke (takeBit (view k (now (t .entry)) (now (p .entry))) DATA-FREE d) SENDER d sender) LENGTH d length) (now (t .exit)) (now (p .entry)) ⌝ }
+    ensures { λ _. ⌜ Makes k (λ s. poke (poke (takeBit s DATA-FREE d) SENDER d sender) LENGTH d length) (now (t .entry)) (now (p .entry)) (now (t .exit)) (now (p .entry)) ⌝ }
 {
     take_bit(t, p, k, DATA_FREE, d);
     put(t, p, k, SENDER, d, sender);
@@ -72,7 +58,7 @@ fn mark(t: &mut [u64], p: &[u8], k: Caps, d: u64, sender: u64, length: u64)
 // Data entry d begins with a header.
 fn put_header(t: &[u64], p: &mut [u8], k: Caps, d: u64, header: u32)
     requires { ⌜ Room k (now t) (now p) × (d < k .datas) ⌝ }
-    ensures { λ _. ⌜ Left k (write (view k (now (t .entry)) (now (p .entry))) d 0 (le 4 header)) (now (t .entry)) (now (p .exit)) ⌝ }
+    ensures { λ _. ⌜ Makes k (λ s. write s d 0 (le 4 header)) (now (t .entry)) (now (p .entry)) (now (t .entry)) (now (p .exit)) ⌝ }
 {
     store32(p, ENTRY_BYTES * (d as usize), header);
 }
@@ -80,7 +66,7 @@ fn put_header(t: &[u64], p: &mut [u8], k: Caps, d: u64, header: u32)
 // Data entry d is taken, and holds a message.
 pub fn fill(t: &mut [u64], p: &mut [u8], k: Caps, d: u64, sender: u64, header: u32, payload: &[u8])
     requires { ⌜ Room k (now t) (now p) × (d < k .datas) × (length (now payload) ≤ PAYLOAD-MOST) ⌝ }
-    ensures { λ _. ⌜ Left k (fill (view k (now (t .entry)) (now (p .entry))) d sender header (now (payload .entry))) (now (t .exit)) (now (p .exit)) ⌝ }
+    ensures { λ _. ⌜ Makes k (λ s. fill s d sender header (now (payload .entry))) (now (t .entry)) (now (p .entry)) (now (t .exit)) (now (p .exit)) ⌝ }
 {
     mark(t, p, k, d, sender, payload.len() as u64);
     put_header(t, p, k, d, header);
@@ -90,7 +76,7 @@ pub fn fill(t: &mut [u64], p: &mut [u8], k: Caps, d: u64, sender: u64, header: u
 // Data entry d is freed, and its words are 0.
 fn unmark(t: &mut [u64], p: &[u8], k: Caps, d: u64)
     requires { ⌜ Room k (now t) (now p) ⌝ }
-    ensures { λ _. ⌜ Left k (poke (poke (freeBit (view k (now (t .entry)) (now (p .entry))) DATA-FREE d) SENDER d 0) LENGTH d 0) (now (t .exit)) (now (p .entry)) ⌝ }
+    ensures { λ _. ⌜ Makes k (λ s. poke (poke (freeBit s DATA-FREE d) SENDER d 0) LENGTH d 0) (now (t .entry)) (now (p .entry)) (now (t .exit)) (now (p .entry)) ⌝ }
 {
     free_bit(t, p, k, DATA_FREE, d);
     put(t, p, k, SENDER, d, 0);
@@ -100,7 +86,7 @@ fn unmark(t: &mut [u64], p: &[u8], k: Caps, d: u64)
 // All bytes of data entry d are zero; nothing past the last entry.
 fn wipe(t: &[u64], p: &mut [u8], k: Caps, d: u64)
     requires { ⌜ Room k (now t) (now p) ⌝ }
-    ensures { λ _. ⌜ Left k (blank (view k (now (t .entry)) (now (p .entry))) d) (now (t .entry)) (now (p .exit)) ⌝ }
+    ensures { λ _. ⌜ Makes k (λ s. blank s d) (now (t .entry)) (now (p .entry)) (now (t .entry)) (now (p .exit)) ⌝ }
 {
     if d < k.datas as u64 {
         payload::blank(t, p, k, d);
@@ -110,7 +96,7 @@ fn wipe(t: &[u64], p: &mut [u8], k: Caps, d: u64)
 // Data entry d is freed, and all zero.
 pub fn unfill(t: &mut [u64], p: &mut [u8], k: Caps, d: u64)
     requires { ⌜ Room k (now t) (now p) ⌝ }
-    ensures { λ _. ⌜ Left k (unfill (view k (now (t .entry)) (now (p .entry))) d) (now (t .exit)) (now (p .exit)) ⌝ }
+    ensures { λ _. ⌜ Makes k (λ s. unfill s d) (now (t .entry)) (now (p .entry)) (now (t .exit)) (now (p .exit)) ⌝ }
 {
     unmark(t, p, k, d);
     wipe(t, p, k, d);
@@ -119,7 +105,7 @@ pub fn unfill(t: &mut [u64], p: &mut [u8], k: Caps, d: u64)
 // The data entry in the hand of slot a is released.
 pub fn let_go(t: &mut [u64], p: &mut [u8], k: Caps, a: u64)
     requires { ⌜ Room k (now t) (now p) ⌝ }
-    ensures { λ _. ⌜ Left k (letGo (view k (now (t .entry)) (now (p .entry))) a) (now (t .exit)) (now (p .exit)) ⌝ }
+    ensures { λ _. ⌜ Makes k (λ s. letGo s a) (now (t .entry)) (now (p .entry)) (now (t .exit)) (now (p .exit)) ⌝ }
 {
     let hand = get(t, p, k, HAND, a);
     if hand == 0 {
@@ -132,8 +118,8 @@ pub fn let_go(t: &mut [u64], p: &mut [u8], k: Caps, a: u64)
 // ---- whose mailbox names it
 // Mailbox entry e is taken, names data entry d, and joins the tail of slot a's mailbox.
 pub fn enlist(t: &mut [u64], p: &[u8], k: Caps, e: u64, a: u64, d: u64)
-    requires { ⌜ Room k (now t) (now p) × (a < SAFE) × (d < SAFE) × (head (view k (now t) (now p)) ARRIVED ≤ SAFE) ⌝ }
-    ensures { λ _. ⌜ Left k (enlist (view k (now (t .entry)) (now (p .entry))) e a d) (now (t .exit)) (now (p .entry)) ⌝ }
+    requires { ⌜ RoomWith k (λ s. (a < SAFE) × (d < SAFE) × (head s ARRIVED ≤ SAFE)) (now t) (now p) ⌝ }
+    ensures { λ _. ⌜ Makes k (λ s. enlist s e a d) (now (t .entry)) (now (p .entry)) (now (t .exit)) (now (p .entry)) ⌝ }
 {
     take_bit(t, p, k, MAIL_FREE, e);
     put(t, p, k, MAIL_OWNER, e, a + 1);
@@ -144,7 +130,7 @@ pub fn enlist(t: &mut [u64], p: &[u8], k: Caps, e: u64, a: u64, d: u64)
 // Mailbox entry e is freed: it is nobody's, and names no data entry.
 pub fn disown(t: &mut [u64], p: &[u8], k: Caps, e: u64)
     requires { ⌜ Room k (now t) (now p) ⌝ }
-    ensures { λ _. ⌜ Left k (disown (view k (now (t .entry)) (now (p .entry))) e) (now (t .exit)) (now (p .entry)) ⌝ }
+    ensures { λ _. ⌜ Makes k (λ s. disown s e) (now (t .entry)) (now (p .entry)) (now (t .exit)) (now (p .entry)) ⌝ }
 {
     free_bit(t, p, k, MAIL_FREE, e);
     put(t, p, k, MAIL_OWNER, e, 0);
@@ -153,8 +139,8 @@ pub fn disown(t: &mut [u64], p: &[u8], k: Caps, e: u64)
 
 // The mailbox entry that arrived as the j-th leaves its mailbox and is freed.
 pub fn delist(t: &mut [u64], p: &[u8], k: Caps, j: u64)
-    requires { ⌜ Room k (now t) (now p) × (j < head (view k (now t) (now p)) ARRIVED) × (head (view k (now t) (now p)) ARRIVED ≤ k .mails) ⌝ }
-    ensures { λ _. ⌜ Left k (delist (view k (now (t .entry)) (now (p .entry))) j) (now (t .exit)) (now (p .entry)) ⌝ }
+    requires { ⌜ RoomWith k (λ s. (j < head s ARRIVED) × (head s ARRIVED ≤ k .mails)) (now t) (now p) ⌝ }
+    ensures { λ _. ⌜ Makes k (λ s. delist s j) (now (t .entry)) (now (p .entry)) (now (t .exit)) (now (p .entry)) ⌝ }
 {
     let e = get(t, p, k, ARRIVAL, j);
     disown(t, p, k, e);
@@ -162,32 +148,10 @@ pub fn delist(t: &mut [u64], p: &[u8], k: Caps, j: u64)
 }
 
 // ---- whom its arrival wakes
-// Is a wanted number the one that is there, or does it stand for any?
-fn wants(any: u64, wanted: u64, x: u64) -> bool
-    ensures { λ r. ⌜ r ≡ wants any wanted x ⌝ }
-{
-    (wanted == any) | (wanted == x)
-}
-
-// Does a filter of sender, class and tag match?
-pub fn fits(
-    want_sender: u64,
-    want_class: u64,
-    want_tag: u64,
-    sender: u64,
-    class: u64,
-    tag: u64,
-) -> bool
-    ensures { λ r. ⌜ r ≡ fits «want_sender» «want_class» «want_tag» sender class tag ⌝ }
-{
-    wants(ANY_SENDER, want_sender, sender)
-        & (wants(ANY_CLASS, want_class, class) & wants(ANY_TAG, want_tag, tag))
-}
-
 // Does the filter of slot a match?
 fn suits(t: &[u64], p: &[u8], k: Caps, a: u64, sender: u64, class: u64, tag: u64) -> bool
     requires { ⌜ Room k (now t) (now p) ⌝ }
-    ensures { λ r. ⌜ r ≡ fits (at (view k (now (t .entry)) (now (p .entry))) WANT-SENDER a) (at (view k (now (t .entry)) (now (p .entry))) WANT-CLASS a) (at (view k (now (t .entry)) (now (p .entry))) WANT-TAG a) sender class tag ⌝ }
+    ensures { λ r. ⌜ Reads k (λ s. fits (at s WANT-SENDER a) (at s WANT-CLASS a) (at s WANT-TAG a) sender class tag) (now (t .entry)) (now (p .entry)) r ⌝ }
 {
     let want_sender = get(t, p, k, WANT_SENDER, a);
     let want_class = get(t, p, k, WANT_CLASS, a);
@@ -198,18 +162,18 @@ fn suits(t: &[u64], p: &[u8], k: Caps, a: u64, sender: u64, class: u64, tag: u64
 // Does slot a wait for such a message?
 pub fn hears(t: &[u64], p: &[u8], k: Caps, a: u64, sender: u64, header: u32) -> bool
     requires { ⌜ Room k (now t) (now p) ⌝ }
-    ensures { λ r. ⌜ r ≡ hears (view k (now (t .entry)) (now (p .entry))) a sender header ⌝ }
+    ensures { λ r. ⌜ Reads k (λ s. hears s a sender header) (now (t .entry)) (now (p .entry)) r ⌝ }
 {
     let state = get(t, p, k, STATE, a);
-    let class = class_of(header) as u64;
-    let tag = tag_of(header) as u64;
+    let class = class_in(header);
+    let tag = tag_in(header);
     (state == WAITS) & suits(t, p, k, a, sender, class, tag)
 }
 
 // Slot a becomes runnable if it waits for such a message.
 pub fn stir(t: &mut [u64], p: &[u8], k: Caps, a: u64, sender: u64, header: u32)
-    requires { ⌜ Room k (now t) (now p) × (head (view k (now t) (now p)) QUEUED ≤ SAFE) ⌝ }
-    ensures { λ _. ⌜ Left k (stir (view k (now (t .entry)) (now (p .entry))) a sender header) (now (t .exit)) (now (p .entry)) ⌝ }
+    requires { ⌜ RoomWith k (λ s. head s QUEUED ≤ SAFE) (now t) (now p) ⌝ }
+    ensures { λ _. ⌜ Makes k (λ s. stir s a sender header) (now (t .entry)) (now (p .entry)) (now (t .exit)) (now (p .entry)) ⌝ }
 {
     if hears(t, p, k, a, sender, header) {
         wake(t, p, k, a, MESSAGE);
@@ -218,8 +182,8 @@ pub fn stir(t: &mut [u64], p: &[u8], k: Caps, a: u64, sender: u64, header: u32)
 
 // A message to slot a, for which there is room.
 pub fn post(t: &mut [u64], p: &mut [u8], k: Caps, a: u64, sender: u64, header: u32, payload: &[u8])
-    requires { ⌜ Room k (now t) (now p) × (hasRoom k (view k (now t) (now p)) ≡ true) × (length (now payload) ≤ PAYLOAD-MOST) × (a < SAFE) × (head (view k (now t) (now p)) QUEUED ≤ SAFE) × (head (view k (now t) (now p)) ARRIVED ≤ SAFE) ⌝ }
-    ensures { λ _. ⌜ Left k (post k (view k (now (t .entry)) (now (p .entry))) a sender header (now (payload .entry))) (now (t .exit)) (now (p .exit)) ⌝ }
+    requires { ⌜ RoomWith k (λ s. (hasRoom k s ≡ true) × (length (now payload) ≤ PAYLOAD-MOST) × (a < SAFE) × (head s QUEUED ≤ SAFE) × (head s ARRIVED ≤ SAFE)) (now t) (now p) ⌝ }
+    ensures { λ _. ⌜ Makes k (λ s. post k s a sender header (now (payload .entry))) (now (t .entry)) (now (p .entry)) (now (t .exit)) (now (p .exit)) ⌝ }
 {
     let d = data_for(t, p, k);
     let e = mail_for(t, p, k);

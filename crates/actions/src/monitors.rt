@@ -1,7 +1,7 @@
 // Monitors. The slots of watcher and watched are written one up, as in the columns.
 ghost use Prim.Native.Nat.{_<_, _^_};
 ghost use Rattle.tables.specs.Columns.{MONITOR-AGE};
-ghost use Rattle.tables.specs.State.{at, view, Room, Left};
+ghost use Rattle.tables.specs.State.{at, Room, RoomWith, Makes};
 ghost use Rattle.rules.specs.Calls.{watch, unwatch};
 use tables::Caps;
 use tables::columns::MONITOR_AGE;
@@ -12,8 +12,8 @@ use tables::words::put;
 
 // A use of monitor slot i begins: a watches b.
 pub fn watch(t: &mut [u64], p: &[u8], k: Caps, i: u64, a: u64, b: u64)
-    requires { ⌜ Room k (now t) (now p) × (at (view k (now t) (now p)) MONITOR-AGE i < 2 ^ 32) ⌝ }
-    ensures { λ _. ⌜ Left k (watch (view k (now (t .entry)) (now (p .entry))) i a b) (now (t .exit)) (now (p .entry)) ⌝ }
+    requires { ⌜ RoomWith k (λ s. at s MONITOR-AGE i < 2 ^ 32) (now t) (now p) ⌝ }
+    ensures { λ _. ⌜ Makes k (λ s. watch s i a b) (now (t .entry)) (now (p .entry)) (now (t .exit)) (now (p .entry)) ⌝ }
 {
     let age = get(t, p, k, MONITOR_AGE, i);
     put(t, p, k, MONITOR_AGE, i, age + 1);
@@ -24,7 +24,7 @@ pub fn watch(t: &mut [u64], p: &[u8], k: Caps, i: u64, a: u64, b: u64)
 // The use of monitor slot i ends.
 pub fn unwatch(t: &mut [u64], p: &[u8], k: Caps, i: u64)
     requires { ⌜ Room k (now t) (now p) ⌝ }
-    ensures { λ _. ⌜ Left k (unwatch (view k (now (t .entry)) (now (p .entry))) i) (now (t .exit)) (now (p .entry)) ⌝ }
+    ensures { λ _. ⌜ Makes k (λ s. unwatch s i) (now (t .entry)) (now (p .entry)) (now (t .exit)) (now (p .entry)) ⌝ }
 {
     put(t, p, k, WATCHER, i, 0);
     put(t, p, k, WATCHED, i, 0);

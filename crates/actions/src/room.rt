@@ -1,6 +1,5 @@
 // The entry of each pool that a call would take: always the lowest. Past the last where there is none.
-ghost use mathlib.Core.Path.{_≡_};
-ghost use Rattle.tables.specs.State.{view, Room};
+ghost use Rattle.tables.specs.State.{Room, Reads};
 ghost use Rattle.rules.specs.Actions.{mailFor, dataFor, hasRoom};
 ghost use Rattle.rules.specs.Calls.{slotFor, timerFor, linkFor, monitorFor};
 use tables::Caps;
@@ -21,7 +20,7 @@ use tables::limits::OLDEST;
 // The slot for a new actor.
 pub fn slot_for(t: &[u64], p: &[u8], k: Caps) -> u64
     requires { ⌜ Room k (now t) (now p) ⌝ }
-    ensures { λ r. ⌜ r ≡ slotFor k (view k (now (t .entry)) (now (p .entry))) ⌝ }
+    ensures { λ r. ⌜ Reads k (slotFor k) (now (t .entry)) (now (p .entry)) r ⌝ }
 {
     lowest_slot(t, p, k, STATE, AGE, OLDEST)
 }
@@ -29,7 +28,7 @@ pub fn slot_for(t: &[u64], p: &[u8], k: Caps) -> u64
 // The slot for a new timer.
 pub fn timer_for(t: &[u64], p: &[u8], k: Caps) -> u64
     requires { ⌜ Room k (now t) (now p) ⌝ }
-    ensures { λ r. ⌜ r ≡ timerFor k (view k (now (t .entry)) (now (p .entry))) ⌝ }
+    ensures { λ r. ⌜ Reads k (timerFor k) (now (t .entry)) (now (p .entry)) r ⌝ }
 {
     lowest_slot(t, p, k, TIMER_OWNER, TIMER_AGE, OLDEST)
 }
@@ -37,7 +36,7 @@ pub fn timer_for(t: &[u64], p: &[u8], k: Caps) -> u64
 // The slot for a new monitor.
 pub fn monitor_for(t: &[u64], p: &[u8], k: Caps) -> u64
     requires { ⌜ Room k (now t) (now p) ⌝ }
-    ensures { λ r. ⌜ r ≡ monitorFor k (view k (now (t .entry)) (now (p .entry))) ⌝ }
+    ensures { λ r. ⌜ Reads k (monitorFor k) (now (t .entry)) (now (p .entry)) r ⌝ }
 {
     lowest_slot(t, p, k, WATCHER, MONITOR_AGE, OLDEST)
 }
@@ -45,7 +44,7 @@ pub fn monitor_for(t: &[u64], p: &[u8], k: Caps) -> u64
 // The entry for a new link.
 pub fn link_for(t: &[u64], p: &[u8], k: Caps) -> u64
     requires { ⌜ Room k (now t) (now p) ⌝ }
-    ensures { λ r. ⌜ r ≡ linkFor k (view k (now (t .entry)) (now (p .entry))) ⌝ }
+    ensures { λ r. ⌜ Reads k (linkFor k) (now (t .entry)) (now (p .entry)) r ⌝ }
 {
     lowest_unused(t, p, k, LINK_ONE)
 }
@@ -53,7 +52,7 @@ pub fn link_for(t: &[u64], p: &[u8], k: Caps) -> u64
 // The mailbox entry for a message.
 pub fn mail_for(t: &[u64], p: &[u8], k: Caps) -> u64
     requires { ⌜ Room k (now t) (now p) ⌝ }
-    ensures { λ r. ⌜ r ≡ mailFor k (view k (now (t .entry)) (now (p .entry))) ⌝ }
+    ensures { λ r. ⌜ Reads k (mailFor k) (now (t .entry)) (now (p .entry)) r ⌝ }
 {
     lowest_bit(t, p, k, MAIL_FREE, k.mails)
 }
@@ -61,7 +60,7 @@ pub fn mail_for(t: &[u64], p: &[u8], k: Caps) -> u64
 // The data entry for a message.
 pub fn data_for(t: &[u64], p: &[u8], k: Caps) -> u64
     requires { ⌜ Room k (now t) (now p) ⌝ }
-    ensures { λ r. ⌜ r ≡ dataFor k (view k (now (t .entry)) (now (p .entry))) ⌝ }
+    ensures { λ r. ⌜ Reads k (dataFor k) (now (t .entry)) (now (p .entry)) r ⌝ }
 {
     lowest_bit(t, p, k, DATA_FREE, k.datas)
 }
@@ -69,7 +68,7 @@ pub fn data_for(t: &[u64], p: &[u8], k: Caps) -> u64
 // Have both message pools room?
 pub fn has_room(t: &[u64], p: &[u8], k: Caps) -> bool
     requires { ⌜ Room k (now t) (now p) ⌝ }
-    ensures { λ r. ⌜ r ≡ hasRoom k (view k (now (t .entry)) (now (p .entry))) ⌝ }
+    ensures { λ r. ⌜ Reads k (hasRoom k) (now (t .entry)) (now (p .entry)) r ⌝ }
 {
     let mail = mail_for(t, p, k);
     let entry = data_for(t, p, k);

@@ -2,7 +2,7 @@
 ghost use Prim.Native.Nat.{_≤_, _<_, _^_};
 ghost use Rattle.tables.specs.Columns.{CLOCK, INTERVAL, TIMER-AGE};
 ghost use Rattle.tables.specs.Limits.{CLOCK-END, LONGEST, SAFE};
-ghost use Rattle.tables.specs.State.{at, head, view, Room, Left};
+ghost use Rattle.tables.specs.State.{at, head, Room, RoomWith, Makes};
 ghost use Rattle.rules.specs.Calls.{arm, disarm, rearm};
 use tables::Caps;
 use tables::columns::CLOCK;
@@ -15,8 +15,8 @@ use tables::words::put;
 
 // A use of timer slot i begins: it is slot a's, and due at a time. An interval of 0 is a one-shot's.
 pub fn arm(t: &mut [u64], p: &[u8], k: Caps, i: u64, a: u64, time: u64, interval: u64)
-    requires { ⌜ Room k (now t) (now p) × (at (view k (now t) (now p)) TIMER-AGE i < 2 ^ 32) × (a < SAFE) ⌝ }
-    ensures { λ _. ⌜ Left k (arm (view k (now (t .entry)) (now (p .entry))) i a time interval) (now (t .exit)) (now (p .entry)) ⌝ }
+    requires { ⌜ RoomWith k (λ s. (at s TIMER-AGE i < 2 ^ 32) × (a < SAFE)) (now t) (now p) ⌝ }
+    ensures { λ _. ⌜ Makes k (λ s. arm s i a time interval) (now (t .entry)) (now (p .entry)) (now (t .exit)) (now (p .entry)) ⌝ }
 {
     let age = get(t, p, k, TIMER_AGE, i);
     put(t, p, k, TIMER_AGE, i, age + 1);
@@ -28,7 +28,7 @@ pub fn arm(t: &mut [u64], p: &[u8], k: Caps, i: u64, a: u64, time: u64, interval
 // The use of timer slot i ends.
 pub fn disarm(t: &mut [u64], p: &[u8], k: Caps, i: u64)
     requires { ⌜ Room k (now t) (now p) ⌝ }
-    ensures { λ _. ⌜ Left k (disarm (view k (now (t .entry)) (now (p .entry))) i) (now (t .exit)) (now (p .entry)) ⌝ }
+    ensures { λ _. ⌜ Makes k (λ s. disarm s i) (now (t .entry)) (now (p .entry)) (now (t .exit)) (now (p .entry)) ⌝ }
 {
     put(t, p, k, TIMER_OWNER, i, 0);
     put(t, p, k, DUE, i, 0);
@@ -37,8 +37,8 @@ pub fn disarm(t: &mut [u64], p: &[u8], k: Caps, i: u64)
 
 // Timer i fires: a one-shot ends, a periodic one is next due an interval from now.
 pub fn rearm(t: &mut [u64], p: &[u8], k: Caps, i: u64)
-    requires { ⌜ Room k (now t) (now p) × (head (view k (now t) (now p)) CLOCK ≤ CLOCK-END) × (at (view k (now t) (now p)) INTERVAL i ≤ LONGEST) ⌝ }
-    ensures { λ _. ⌜ Left k (rearm (view k (now (t .entry)) (now (p .entry))) i) (now (t .exit)) (now (p .entry)) ⌝ }
+    requires { ⌜ RoomWith k (λ s. (head s CLOCK ≤ CLOCK-END) × (at s INTERVAL i ≤ LONGEST)) (now t) (now p) ⌝ }
+    ensures { λ _. ⌜ Makes k (λ s. rearm s i) (now (t .entry)) (now (p .entry)) (now (t .exit)) (now (p .entry)) ⌝ }
 {
     let interval = get(t, p, k, INTERVAL, i);
     if interval == 0 {

@@ -3,7 +3,7 @@ ghost use mathlib.Core.Path.{_≡_};
 ghost use Prim.Native.Nat.{_<_, _≤_};
 ghost use lib.ListN.{length};
 ghost use Rattle.tables.specs.Columns.{REST};
-ghost use Rattle.tables.specs.State.{size, view, Room};
+ghost use Rattle.tables.specs.State.{size, Room, Reads};
 ghost use Rattle.rules.specs.Actions.{earliest};
 ghost use Rattle.actions.specs.Times.{earliestIn};
 use tables::Caps;
@@ -32,7 +32,7 @@ fn earliest_in(used: &[u64], time: &[u64], limit: u64, n: usize) -> u64
 // Of the first n entries the one with the earliest time, one up; of equal ones the lowest. 0 where none is due.
 pub fn earliest(t: &[u64], p: &[u8], k: Caps, used: usize, time: usize, limit: u64, n: u64) -> u64
     requires { ⌜ Room k (now t) (now p) × (used < REST) × (time < REST) × (n ≤ size k used) × (n ≤ size k time) ⌝ }
-    ensures { λ r. ⌜ r ≡ earliest (view k (now (t .entry)) (now (p .entry))) used time limit n ⌝ }
+    ensures { λ r. ⌜ Reads k (λ s. earliest s used time limit n) (now (t .entry)) (now (p .entry)) r ⌝ }
 {
     earliest_in(
         column(t, p, k, used),

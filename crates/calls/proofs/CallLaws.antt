@@ -1,25 +1,23 @@
--- What a good state says of the numbers that the calls reckon with. Assumes nothing.
+-- What a good state says of the numbers that the calls reckon with.
 use Prim.Native.Nat.{ℕ, _-_, _≤_, _<_}
 use mathlib.Core.Path.{_≡_, refl, sym, _∙_, ap}
 use mathlib.Core.Bool.{Bool, true, false, not, _&&_, _||_}
 use mathlib.Core.List.{List}
 use native.Mathlib.Omega.{arith}
-use lib.ListN.{List·getD-eq-default, getD}
+use lib.ListN.{getD}
 use lib.Dec.{eqb, ltb}
-use borrow.Author.Tests.{eq-eqb, ne-eqb, lt-ltb, le-ltb, eqb-true, eqb-false, ltb-true, ltb-false, not-true, not-false}
-use Rattle.pools.proofs.BoolLaws.{split}
+use borrow.Author.Tests.{eq-eqb, ne-eqb, lt-ltb, le-ltb, not-true, not-false}
 use Rattle.tables.specs.declared.Caps.{Caps}
-use Rattle.pools.specs.Bits.{free}
-use Rattle.tables.specs.Columns.{AGE, ARRIVAL, ARRIVED, CLOCK, DATA-FREE, DEADLINE, DUE, HAND, LENGTH, MAIL-DATA, MAIL-FREE, MONITOR-AGE, REST, TIMER-AGE, TIMER-OWNER}
-use Rattle.tables.specs.Limits.{ACTOR-FACTOR, DEADLINE-END, DUE-END, OLDEST, PAYLOAD-MOST}
-use Rattle.tables.specs.State.{State, at, head, size, view, Room}
+use Rattle.tables.specs.Columns.{AGE, ARRIVAL, ARRIVED, CLOCK, MAIL-DATA}
+use Rattle.tables.specs.Limits.{ACTOR-FACTOR, OLDEST}
+use Rattle.tables.specs.State.{State, at, head, Reads, RoomWith}
 use Rattle.rules.specs.Actions.{letGo}
 use Rattle.rules.specs.Calls.{dataOf}
 use Rattle.rules.specs.Sound.{Ready}
 use Rattle.rules.specs.Terms.{runner}
-use Rattle.rules.proofs.Good.{Good}
-use Rattle.rules.proofs.Ready.{good-ready}
-use Rattle.rules.proofs.Frames.{wrote-letGo}
+use Rattle.rules.proofs.Kept.Clauses.{age-fits, runner-fits}
+use Rattle.rules.proofs.Kept.Ready.{good-ready}
+use Rattle.rules.proofs.Frames.Actions.{wrote-letGo}
 
 -- ---- a test of the code on what it has read is the rule's
 module _ {r x : ℕ} (e : r ≡ x) where
@@ -63,63 +61,10 @@ module _ {b x : Bool} (e : b ≡ x) where
 pub refused : {b x c y t : Bool} → b ≡ x → c ≡ y → not b || c ≡ t → not x || y ≡ t
 refused e f h = rw (← e, ← f) h
 
--- ---- numbers of a good state
-module _ {k : Caps} {s : State} (g : Good k s) where
-  -- what holds of every word that a column has, and of 0, holds of every number
-  every-word : (c n : ℕ) → c < REST → ((i : ℕ) → i < size k c → at s c i ≤ n) → (i : ℕ) → at s c i ≤ n
-  every-word c n h f i =
-      split (ltb i (size k c))
-      (λ q. f i (ltb-true i (size k c) q))
-      (λ q. let z : at s c i ≡ 0 = List·getD-eq-default (s c) 0 {n = i} (omega (arith, g .sized .words c h, ltb-false i (size k c) q)) in omega arith)
-
-  -- ages
-  pub age-fits : (a : ℕ) → at s AGE a ≤ OLDEST
-  age-fits = every-word AGE OLDEST (omega arith) (λ a l. g .actors a l .1 .0 .0)
-
-  pub timer-age-fits : (i : ℕ) → at s TIMER-AGE i ≤ OLDEST
-  timer-age-fits = every-word TIMER-AGE OLDEST (omega arith) (λ i l. g .timers i l .0 .0)
-
-  pub monitor-age-fits : (i : ℕ) → at s MONITOR-AGE i ≤ OLDEST
-  monitor-age-fits = every-word MONITOR-AGE OLDEST (omega arith) (λ i l. g .monitors i l .0 .0)
-
-  -- times
-  pub due-fits : (i : ℕ) → at s DUE i ≤ DUE-END
-  due-fits =
-      every-word DUE DUE-END (omega arith)
-      (λ i l. split (eqb (at s TIMER-OWNER i) 0)
-      (λ q. let z = g .timers i l .1 .0 (eqb-true _ _ q) .0 in omega arith)
-      (λ q. g .timers i l .1 .1 (eqb-false _ _ q) .1 .0))
-
-  pub deadline-fits : (a : ℕ) → at s DEADLINE a ≤ DEADLINE-END
-  deadline-fits =
-      every-word DEADLINE DEADLINE-END (omega arith)
-      (λ a l. split (eqb (at s DEADLINE a) 0)
-      (λ q. let z : at s DEADLINE a ≡ 0 = eqb-true (at s DEADLINE a) 0 q in omega arith)
-      (λ q. g .waits a l .1 .1 (eqb-false _ _ q) .1))
-
-  -- a hand names a data entry, and so does a mailbox entry
-  pub hand-fits : (a : ℕ) → at s HAND a ≤ k .datas
-  hand-fits = every-word HAND (k .datas) (omega arith) (λ a l. g .actors a l .1 .1)
-
-  pub mail-fits : (e : ℕ) → at s MAIL-DATA e ≤ k .datas
-  mail-fits =
-      every-word MAIL-DATA (k .datas) (omega arith)
-      (λ e l. split (free (s MAIL-FREE) e)
-      (λ q. let z = g .mails e l .0 q .1 in omega arith)
-      (λ q. g .mails e l .1 (rw q) .1 .1))
-
-  -- "Payloads are 0 to 252 bytes"
-  pub length-fits : (d : ℕ) → at s LENGTH d ≤ PAYLOAD-MOST
-  length-fits =
-      every-word LENGTH PAYLOAD-MOST (omega arith)
-      (λ d l. split (free (s DATA-FREE) d)
-      (λ q. let z = g .datas d l .0 q .0 .1 in omega arith)
-      (λ q. g .datas d l .1 (rw q) .0 .1 .0))
-
 -- the running actor's slot is one of them, and its id fits
-pub runner-fits : {k : Caps} {w p : List ℕ} {r : ℕ} → Ready k w p → r ≡ runner (view k w p) → Room k w p × (r - 1 < ACTOR-FACTOR) × (at (view k w p) AGE (r - 1) ≤ OLDEST)
-runner-fits {k} {w} {p} {r} c e =
-    let g = good-ready k w p c in (c .room, omega (arith, g .head .0 .1, g .range), age-fits g (r - 1))
+pub runner-id-fits : {k : Caps} {w p : List ℕ} {r : ℕ} → Ready k w p → Reads k runner w p r → RoomWith k (λ s. (r - 1 < ACTOR-FACTOR) × (at s AGE (r - 1) ≤ OLDEST)) w p
+runner-id-fits {k} {w} {p} {r} c e =
+    let g = good-ready k w p c in (c .room, (omega (arith, runner-fits g, g .range), age-fits g (r - 1)))
 
 -- ---- what stays while the hand is emptied
 module _ (s : State) (a : ℕ) where

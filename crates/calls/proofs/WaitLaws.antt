@@ -1,4 +1,4 @@
--- Waits by their sign, as the machine tests it. Assumes nothing.
+-- Waits by their sign, as the machine tests it.
 use Prim.Native.Nat.{ℕ, suc, _+_, _-_, _*_, _^_, _≤_}
 use mathlib.Core.Path.{_≡_, refl, ap}
 use mathlib.Core.Bool.{true, false, not}

@@ -4,19 +4,19 @@ ghost use mathlib.Core.Bool.{false};
 ghost use Prim.Native.Nat.{ℕ, _<_, _≤_};
 ghost use Rattle.tables.specs.Columns.{ARRIVED, CLOCK};
 ghost use Rattle.tables.specs.Limits.{CLOCK-END, SAFE};
-ghost use Rattle.tables.specs.State.{head, view, Room, Left};
+ghost use Rattle.tables.specs.State.{head, Room, RoomWith, Reads, Makes, Does};
 ghost use Rattle.rules.specs.Sound.{Ready};
 ghost use Rattle.rules.specs.Terms.{legal};
 ghost use Rattle.rules.specs.Calls.{await, badWait, dataOf, deadlineAt, handOver, noMessage, notAtAll, receiveBare, receiveEntry, received, ruled};
 ghost use Rattle.rules.specs.Host.{Gives};
 use actions::messages::delist;
-use actions::messages::header_at;
 use actions::messages::let_go;
 use actions::queue::data_of;
 use actions::queue::first_match;
 use actions::running::halt;
-use records::header::class_of;
-use records::header::tag_of;
+use reading::headers::class_in;
+use reading::headers::header_at;
+use reading::headers::tag_in;
 use rules::Received;
 use rules::states::WAITS;
 use tables::Caps;
@@ -89,14 +89,14 @@ fn no_message(no: u64) -> Received
 // The message of data entry d.
 fn message(t: &[u64], p: &[u8], k: Caps, d: u64) -> Received
     requires { ⌜ Room k (now t) (now p) ⌝ }
-    ensures { λ r. ⌜ r ≡ received (view k (now (t .entry)) (now (p .entry))) d ⌝ }
+    ensures { λ r. ⌜ Reads k (λ s. received s d) (now (t .entry)) (now (p .entry)) r ⌝ }
 {
     let header = header_at(t, p, k, d);
     Received {
         no: 0,
         sender: get(t, p, k, SENDER, d),
-        class: class_of(header) as u64,
-        tag: tag_of(header) as u64,
+        class: class_in(header),
+        tag: tag_in(header),
         length: get(t, p, k, LENGTH, d),
     }
 }
@@ -104,8 +104,8 @@ fn message(t: &[u64], p: &[u8], k: Caps, d: u64) -> Received
 // ---- what is done
 // The j-th arrival goes from its mailbox to the hand of slot a.
 fn hand_over(t: &mut [u64], p: &[u8], k: Caps, a: u64, j: u64) -> Received
-    requires { ⌜ Room k (now t) (now p) × (j < head (view k (now t) (now p)) ARRIVED) × (head (view k (now t) (now p)) ARRIVED ≤ k .mails) × (dataOf (view k (now t) (now p)) j < SAFE) ⌝ }
-    ensures { λ r. ⌜ (r ≡ received (view k (now (t .entry)) (now (p .entry))) (dataOf (view k (now (t .entry)) (now (p .entry))) j)) × Left k (handOver (view k (now (t .entry)) (now (p .entry))) a j) (now (t .exit)) (now (p .entry)) ⌝ }
+    requires { ⌜ RoomWith k (λ s. (j < head s ARRIVED) × (head s ARRIVED ≤ k .mails) × (dataOf s j < SAFE)) (now t) (now p) ⌝ }
+    ensures { λ r. ⌜ Does k (λ s. received s (dataOf s j)) (λ s. handOver s a j) (now (t .entry)) (now (p .entry)) r (now (t .exit)) (now (p .entry)) ⌝ }
 {
     let d = data_of(t, p, k, j);
     let answer = message(t, p, k, d);
@@ -126,7 +126,7 @@ fn await_in(
     deadline: u64,
 )
     requires { ⌜ Room k (now t) (now p) ⌝ }
-    ensures { λ _. ⌜ Left k (await (view k (now (t .entry)) (now (p .entry))) a sender class tag deadline) (now (t .exit)) (now (p .entry)) ⌝ }
+    ensures { λ _. ⌜ Makes k (λ s. await s a sender class tag deadline) (now (t .entry)) (now (p .entry)) (now (t .exit)) (now (p .entry)) ⌝ }
 {
     halt(t, p, k);
     put(t, p, k, STATE, a, WAITS);
@@ -147,8 +147,8 @@ fn receive_bare(
     wait: i64,
     a: u64,
 ) -> Received
-    requires { ⌜ Room k (now t) (now p) × (a < SAFE) × (head (view k (now t) (now p)) CLOCK ≤ CLOCK-END) × (head (view k (now t) (now p)) ARRIVED ≤ k .mails) × ((j : ℕ) → dataOf (view k (now t) (now p)) j < SAFE) × (badWait wait ≡ false) ⌝ }
-    ensures { λ r. ⌜ (r ≡ receiveBare sender class tag wait a (view k (now (t .entry)) (now (p .entry))) .ans) × Left k (receiveBare sender class tag wait a (view k (now (t .entry)) (now (p .entry))) .state) (now (t .exit)) (now (p .entry)) ⌝ }
+    requires { ⌜ RoomWith k (λ s. (a < SAFE) × (head s CLOCK ≤ CLOCK-END) × (head s ARRIVED ≤ k .mails) × ((j : ℕ) → dataOf s j < SAFE) × (badWait wait ≡ false)) (now t) (now p) ⌝ }
+    ensures { λ r. ⌜ Gives (λ _. receiveBare sender class tag wait a) k (now (t .entry)) (now (p .entry)) r (now (t .exit)) (now (p .entry)) ⌝ }
 {
     let j = first_match(t, p, k, a, sender, class, tag);
     if j < get(t, p, k, ARRIVED, 0) {

@@ -1,11 +1,10 @@
 // Who runs: spawn, next, yield; and report.
-ghost use mathlib.Core.Path.{_≡_};
 ghost use Prim.Native.Nat.{_+_, _<_, _≤_};
 ghost use lib.IntN.{pos};
 ghost use Rattle.pools.specs.Slot.{idOf};
 ghost use Rattle.tables.specs.Columns.{AGE, PRIORITY, QUEUED, REASON};
 ghost use Rattle.tables.specs.Limits.{ACTOR-FACTOR, OLDEST, SAFE};
-ghost use Rattle.tables.specs.State.{at, head, poke, view, Room, Left};
+ghost use Rattle.tables.specs.State.{at, head, poke, RoomWith, Makes, Does};
 ghost use Rattle.rules.specs.Sound.{Ready};
 ghost use Rattle.rules.specs.Terms.{actorId};
 ghost use Rattle.rules.specs.Actions.{ready};
@@ -49,8 +48,8 @@ use tables::words::put;
 // ---- spawn
 // A use of slot a begins, at the tail of its level.
 fn begin(t: &mut [u64], p: &[u8], k: Caps, a: u64, priority: u64) -> Made
-    requires { ⌜ Room k (now t) (now p) × (a < ACTOR-FACTOR) × (at (view k (now t) (now p)) AGE a ≤ OLDEST) × (head (view k (now t) (now p)) QUEUED ≤ SAFE) ⌝ }
-    ensures { λ r. ⌜ (r ≡ made 0 (idOf ACTOR-FACTOR (at (view k (now (t .entry)) (now (p .entry))) AGE a + 1) a)) × Left k (ready (poke (poke (view k (now (t .entry)) (now (p .entry))) AGE a (at (view k (now (t .entry)) (now (p .entry))) AGE a + 1)) PRIORITY a priority) a 0) (now (t .exit)) (now (p .entry)) ⌝ }
+    requires { ⌜ RoomWith k (λ s. (a < ACTOR-FACTOR) × (at s AGE a ≤ OLDEST) × (head s QUEUED ≤ SAFE)) (now t) (now p) ⌝ }
+    ensures { λ r. ⌜ Does k (λ s. made 0 (idOf ACTOR-FACTOR (at s AGE a + 1) a)) (λ s. ready (poke (poke s AGE a (at s AGE a + 1)) PRIORITY a priority) a 0) (now (t .entry)) (now (p .entry)) r (now (t .exit)) (now (p .entry)) ⌝ }
 {
     let age = get(t, p, k, AGE, a) + 1;
     put(t, p, k, AGE, a, age);
@@ -80,8 +79,8 @@ pub fn spawn_in(t: &mut [u64], p: &[u8], k: Caps, priority: u64) -> Made
 // ---- next
 // Slot a, the j-th of the queue, runs.
 fn run(t: &mut [u64], p: &[u8], k: Caps, a: u64, j: u64)
-    requires { ⌜ Room k (now t) (now p) × (a < ACTOR-FACTOR) × (j < head (view k (now t) (now p)) QUEUED) × (head (view k (now t) (now p)) QUEUED ≤ k .actors) ⌝ }
-    ensures { λ _. ⌜ Left k (run (view k (now (t .entry)) (now (p .entry))) a j) (now (t .exit)) (now (p .entry)) ⌝ }
+    requires { ⌜ RoomWith k (λ s. (a < ACTOR-FACTOR) × (j < head s QUEUED) × (head s QUEUED ≤ k .actors)) (now t) (now p) ⌝ }
+    ensures { λ _. ⌜ Makes k (λ s. run s a j) (now (t .entry)) (now (p .entry)) (now (t .exit)) (now (p .entry)) ⌝ }
 {
     pull(t, p, k, QUEUE, QUEUED, j);
     put(t, p, k, STATE, a, RUNS);
@@ -91,8 +90,8 @@ fn run(t: &mut [u64], p: &[u8], k: Caps, a: u64, j: u64)
 
 // The same, with who it is and why it was runnable.
 fn take_turn(t: &mut [u64], p: &[u8], k: Caps, a: u64, j: u64) -> Turn
-    requires { ⌜ Room k (now t) (now p) × (a < ACTOR-FACTOR) × (at (view k (now t) (now p)) AGE a ≤ OLDEST) × (j < head (view k (now t) (now p)) QUEUED) × (head (view k (now t) (now p)) QUEUED ≤ k .actors) ⌝ }
-    ensures { λ r. ⌜ (r ≡ record { no = 0; id = actorId (view k (now (t .entry)) (now (p .entry))) a; reason = at (view k (now (t .entry)) (now (p .entry))) REASON a; sleep = pos 0 }) × Left k (run (view k (now (t .entry)) (now (p .entry))) a j) (now (t .exit)) (now (p .entry)) ⌝ }
+    requires { ⌜ RoomWith k (λ s. (a < ACTOR-FACTOR) × (at s AGE a ≤ OLDEST) × (j < head s QUEUED) × (head s QUEUED ≤ k .actors)) (now t) (now p) ⌝ }
+    ensures { λ r. ⌜ Does k (λ s. record { no = 0; id = actorId s a; reason = at s REASON a; sleep = pos 0 }) (λ s. run s a j) (now (t .entry)) (now (p .entry)) r (now (t .exit)) (now (p .entry)) ⌝ }
 {
     let id = actor_id(t, p, k, a);
     let reason = get(t, p, k, REASON, a);

@@ -4,7 +4,7 @@ ghost use Prim.Native.Nat.{_-_, _<_, _≤_, _^_};
 ghost use lib.IntN.{pos};
 ghost use Rattle.tables.specs.Columns.{REST};
 ghost use Rattle.tables.specs.Limits.{ALWAYS};
-ghost use Rattle.tables.specs.State.{at, size, view, Room};
+ghost use Rattle.tables.specs.State.{at, size, Room, Of, Reads};
 ghost use Rattle.rules.specs.Sound.{Ready};
 ghost use Rattle.rules.specs.Actions.{earliest};
 ghost use Rattle.rules.specs.Calls.{sleep, sleepFor};
@@ -36,7 +36,7 @@ fn down(i: u64) -> u64
 // The earliest of the first n entries in use.
 fn soonest(t: &[u64], p: &[u8], k: Caps, used: usize, time: usize, n: u64) -> Soon
     requires { ⌜ Room k (now t) (now p) × (used < REST) × (time < REST) × (n ≤ size k used) × (n ≤ size k time) ⌝ }
-    ensures { λ r. ⌜ (r .entry ≡ earliest (view k (now (t .entry)) (now (p .entry))) used time ALWAYS n) × (r .time ≡ at (view k (now (t .entry)) (now (p .entry))) time (earliest (view k (now (t .entry)) (now (p .entry))) used time ALWAYS n - 1)) ⌝ }
+    ensures { λ r. ⌜ Of k (λ s. (r .entry ≡ earliest s used time ALWAYS n) × (r .time ≡ at s time (earliest s used time ALWAYS n - 1))) (now (t .entry)) (now (p .entry)) ⌝ }
 {
     let entry = earliest(t, p, k, used, time, ALWAYS, n);
     let time = get(t, p, k, time, down(entry));
@@ -77,7 +77,7 @@ fn sleep_for(clock: u64, timer: u64, due: u64, waiter: u64, deadline: u64) -> i6
 // How long it is until the next timer or deadline; -1 where there is none.
 pub fn sleep(t: &[u64], p: &[u8], k: Caps) -> i64
     requires { ⌜ Ready k (now t) (now p) ⌝ }
-    ensures { λ r. ⌜ r ≡ sleep k (view k (now (t .entry)) (now (p .entry))) ⌝ }
+    ensures { λ r. ⌜ Reads k (sleep k) (now (t .entry)) (now (p .entry)) r ⌝ }
 {
     let clock = get(t, p, k, CLOCK, 0);
     let timer = soonest(t, p, k, TIMER_OWNER, DUE, k.timers as u64);

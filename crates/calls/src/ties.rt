@@ -1,9 +1,10 @@
 // What ties two actors: link, unlink, monitor, demonitor.
-ghost use Rattle.tables.specs.State.{Room};
+ghost use Rattle.tables.specs.State.{Room, Reads};
 ghost use Rattle.rules.specs.Sound.{Ready};
 ghost use Rattle.rules.specs.Calls.{demonitorEntry, linkEntry, monitorEntry, ruled, unlinkEntry};
 ghost use Rattle.rules.specs.Host.{Gives};
-ghost use Rattle.calls.specs.Parts.{joinRule, watchRule};
+ghost use Rattle.rules.specs.Terms.{runner};
+ghost use Rattle.calls.specs.Parts.{afterTests};
 use crate::ids::actor_id;
 use crate::ids::is_actor;
 use actions::links::link_of;
@@ -23,17 +24,18 @@ use tables::limits::MONITOR_FACTOR;
 use tables::words::get;
 
 // ---- links
-// The slots a and b, written one up, are linked, if they are not yet. 2: no entry.
-fn join(t: &mut [u64], p: &[u8], k: Caps, a: u64, b: u64) -> u64
-    requires { ⌜ Room k (now t) (now p) ⌝ }
-    ensures { λ r. ⌜ Gives (joinRule a b) k (now (t .entry)) (now (p .entry)) r (now (t .exit)) (now (p .entry)) ⌝ }
+// The running actor, of slot me written one up, and another are linked, if they are not yet. 2: no entry.
+fn join(t: &mut [u64], p: &[u8], k: Caps, me: u64, partner: u64) -> u64
+    requires { ⌜ Room k (now t) (now p) × Reads k runner (now t) (now p) me ⌝ }
+    ensures { λ r. ⌜ Gives (afterTests 3 (linkEntry partner)) k (now (t .entry)) (now (p .entry)) r (now (t .exit)) (now (p .entry)) ⌝ }
 {
-    if link_of(t, p, k, a, b) < k.links as u64 {
+    let b = partner % ACTOR_FACTOR + 1;
+    if link_of(t, p, k, me, b) < k.links as u64 {
         return 0;
     }
     let e = link_for(t, p, k);
     if e < k.links as u64 {
-        tie(t, p, k, e, a, b);
+        tie(t, p, k, e, me, b);
         return 0;
     }
     2
@@ -54,7 +56,7 @@ pub fn link_in(t: &mut [u64], p: &[u8], k: Caps, partner: u64) -> u64
     if !is_actor(t, p, k, partner) {
         return 3;
     }
-    join(t, p, k, r, partner % ACTOR_FACTOR + 1)
+    join(t, p, k, r, partner)
 }
 
 // A link of the running actor is taken back. 4: nobody runs; 3: no such link.
@@ -76,15 +78,15 @@ pub fn unlink_in(t: &mut [u64], p: &[u8], k: Caps, partner: u64) -> u64
 }
 
 // ---- monitors
-// The slot a watches b, both written one up. 2: no slot.
-fn begin_watch(t: &mut [u64], p: &[u8], k: Caps, a: u64, b: u64) -> Made
-    requires { ⌜ Ready k (now t) (now p) ⌝ }
-    ensures { λ r. ⌜ Gives (watchRule a b) k (now (t .entry)) (now (p .entry)) r (now (t .exit)) (now (p .entry)) ⌝ }
+// The running actor, of slot me written one up, watches another. 2: no slot.
+fn begin_watch(t: &mut [u64], p: &[u8], k: Caps, me: u64, target: u64) -> Made
+    requires { ⌜ Ready k (now t) (now p) × Reads k runner (now t) (now p) me ⌝ }
+    ensures { λ r. ⌜ Gives (afterTests 3 (monitorEntry target)) k (now (t .entry)) (now (p .entry)) r (now (t .exit)) (now (p .entry)) ⌝ }
 {
     let i = monitor_for(t, p, k);
     if i < k.monitors as u64 {
         let age = get(t, p, k, MONITOR_AGE, i) + 1;
-        watch(t, p, k, i, a, b);
+        watch(t, p, k, i, me, target % ACTOR_FACTOR + 1);
         return Made {
             no: 0,
             id: age * MONITOR_FACTOR + i,
@@ -108,7 +110,7 @@ pub fn monitor_in(t: &mut [u64], p: &[u8], k: Caps, target: u64) -> Made
     if !is_actor(t, p, k, target) {
         return Made { no: 3, id: 0 };
     }
-    begin_watch(t, p, k, r, target % ACTOR_FACTOR + 1)
+    begin_watch(t, p, k, r, target)
 }
 
 // A monitor of the running actor ends. 4: nobody runs; 3: it has no such monitor.

@@ -1,4 +1,4 @@
--- The row of the links of one slot: what one more link adds to it, and that it stays right while they end. Assumes nothing.
+-- The row of the links of one slot: what one more link adds to it, and that it stays right while they end.
 use Prim.Native.Nat.{ℕ, suc, _+_, _-_, _<_}
 use mathlib.Core.Path.{_≡_, refl, sym, ap, _∙_}
 use mathlib.Core.Bool.{Bool, true, false, cond, _&&_, _||_}
@@ -19,7 +19,8 @@ use Rattle.tables.specs.Limits.{MOST-ACTORS}
 use Rattle.tables.specs.State.{State}
 use Rattle.rules.specs.Terms.{joins}
 use Rattle.rules.specs.Calls.{Told, cutLink, cutLinks, linkOf, told}
-use Rattle.rules.proofs.ExitLaws.{Going, cut-none, cutLink-no, cutLink-yes, cutLinks-cuts}
+use Rattle.rules.proofs.Kept.Exit.{cut-none, cutLink-no, cutLink-yes, cutLinks-cuts}
+use Rattle.rules.specs.Good.{Going}
 use Rattle.endings.specs.Partners.{Partners, Placed, cutEntry, otherEnd, up}
 
 -- ---- one place

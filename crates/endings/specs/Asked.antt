@@ -1,4 +1,4 @@
--- What the functions inside advance and exit ask of the state. Assumes nothing.
+-- What the functions inside advance and exit ask of the state.
 use Prim.Native.Nat.{ℕ, _≤_, _<_}
 use mathlib.Core.Path.{_≡_}
 use mathlib.Core.Bool.{true}
@@ -7,9 +7,7 @@ use Rattle.tables.specs.Columns.{ARRIVED, CLOCK, INTERVAL, QUEUED, TIMER-AGE, T
 use Rattle.tables.specs.Limits.{CLOCK-END, LONGEST, MOST-ACTORS, OLDEST, SAFE, TIMER-FACTOR}
 use Rattle.tables.specs.State.{State, at, head}
 use Rattle.rules.specs.Actions.{hasRoom}
-use Rattle.rules.proofs.Good as good
-use Rattle.rules.proofs.Clock.{Late}
-use Rattle.rules.proofs.ExitLaws as laws
+use Rattle.rules.specs.Good.{Late}
 
 -- the queue and the arrivals can be counted on
 pub record Short (s : State) : Type 0 where
@@ -30,11 +28,3 @@ pub record Fires (k : Caps) (s : State) (i : ℕ) : Type 0 where
 -- a state that is sound at some earlier clock
 abbrev pub Raised : Caps → State → Type 0
 Raised k s = (c : ℕ) × Late k c s
-
--- a sound state
-abbrev pub Good : Caps → State → Type 0
-Good = good.Good
-
--- a sound state in which the actor of slot a, with the id me, is ending: its mailbox and its hand are empty
-abbrev pub Going : Caps → ℕ → ℕ → State → Type 0
-Going = laws.Going

@@ -1,9 +1,9 @@
--- The notices that were sent and lost, as the functions inside exit count them. Assumes nothing.
+-- The notices that were sent and lost, as the functions inside exit count them.
 use Prim.Native.Nat.{ℕ, _≤_}
 use mathlib.Core.Path.{_≡_}
 use mathlib.Core.List.{List}
 use Rattle.tables.specs.declared.Caps.{Caps}
-use Rattle.tables.specs.State.{State, Left}
+use Rattle.tables.specs.State.{State, view, Left}
 use Rattle.rules.specs.Calls.{Told, told}
 use Rattle.endings.specs.declared.notices.Count.{Count}
 
@@ -21,3 +21,7 @@ pub record Tells (k : Caps) (t : Told) (n : Count) (w p : List ℕ) : Type 0 whe
   pub sent : n .sent ≡ t .sent
   pub lost : n .lost ≡ t .lost
   pub left : Left k (t .state) w p
+
+-- the counts and the buffers that are left are those that f makes of the state that was held
+abbrev pub Counted : Caps → (State → Told) → (w p : List ℕ) → Count → (w′ p′ : List ℕ) → Type 0
+Counted k f w p n w′ p′ = Tells k (f (view k w p)) n w′ p′

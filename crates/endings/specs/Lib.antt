@@ -3,3 +3,4 @@ pub mod Asked
 pub mod Counted
 pub mod Order
 pub mod Partners
+pub mod Stepwise

@@ -1,4 +1,4 @@
--- The links of one slot, noted beforehand in a row with a place for each slot. Assumes nothing.
+-- The links of one slot, noted beforehand in a row with a place for each slot.
 use Prim.Native.Nat.{ℕ, suc, _-_, _<_}
 use mathlib.Core.Path.{_≡_}
 use mathlib.Core.Bool.{cond, _&&_}

@@ -5,7 +5,7 @@ ghost use Prim.Native.Nat.{_≤_, _<_};
 ghost use Rattle.records.specs.Header.{packed};
 ghost use Rattle.records.specs.Records.{tickBytes};
 ghost use Rattle.tables.specs.Limits.{SAFE};
-ghost use Rattle.tables.specs.State.{view, Room, Left};
+ghost use Rattle.tables.specs.State.{RoomWith, Makes, Does};
 ghost use Rattle.rules.specs.Sound.{Ready};
 ghost use Rattle.rules.specs.Actions.{hasRoom, post};
 ghost use Rattle.rules.specs.Calls.{advanceEntry, fire, fireAll, fired, rouse, ruled};
@@ -40,8 +40,8 @@ const TICK: u32 = 3;
 // ---- timers
 // The tick of a timer goes to slot a.
 fn send_tick(t: &mut [u64], p: &mut [u8], k: Caps, a: u64, id: u32)
-    requires { ⌜ Room k (now t) (now p) × (hasRoom k (view k (now t) (now p)) ≡ true) × Short (view k (now t) (now p)) × (a < SAFE) ⌝ }
-    ensures { λ _. ⌜ Left k (post k (view k (now (t .entry)) (now (p .entry))) a 0 (packed 3 1 0) (tickBytes id)) (now (t .exit)) (now (p .exit)) ⌝ }
+    requires { ⌜ RoomWith k (λ s. (hasRoom k s ≡ true) × Short s × (a < SAFE)) (now t) (now p) ⌝ }
+    ensures { λ _. ⌜ Makes k (λ s. post k s a 0 (packed 3 1 0) (tickBytes id)) (now (t .entry)) (now (p .entry)) (now (t .exit)) (now (p .exit)) ⌝ }
 {
     let mut bytes = [0u8; 8];
     put_tick(&mut bytes, 0, id);
@@ -50,8 +50,8 @@ fn send_tick(t: &mut [u64], p: &mut [u8], k: Caps, a: u64, id: u32)
 
 // Timer i fires.
 fn fire(t: &mut [u64], p: &mut [u8], k: Caps, i: u64)
-    requires { ⌜ Room k (now t) (now p) × Fires k (view k (now t) (now p)) i ⌝ }
-    ensures { λ _. ⌜ Left k (fire k (view k (now (t .entry)) (now (p .entry))) i) (now (t .exit)) (now (p .exit)) ⌝ }
+    requires { ⌜ RoomWith k (λ s. Fires k s i) (now t) (now p) ⌝ }
+    ensures { λ _. ⌜ Makes k (λ s. fire k s i) (now (t .entry)) (now (p .entry)) (now (t .exit)) (now (p .exit)) ⌝ }
 {
     let owner = get(t, p, k, TIMER_OWNER, i);
     let age = get(t, p, k, TIMER_AGE, i);
@@ -61,8 +61,8 @@ fn fire(t: &mut [u64], p: &mut [u8], k: Caps, i: u64)
 
 // The due timers, which are the first m of a row, fire from the last on, while both message pools have room. How many did?
 fn fire_row(t: &mut [u64], p: &mut [u8], k: Caps, row: &[u64; MOST_TIMERS], m: usize) -> u64
-    requires { ⌜ Room k (now t) (now p) × Raised k (view k (now t) (now p)) × Waiting k (view k (now t) (now p)) m (now row) × (m ≤ k .timers) ⌝ }
-    ensures { λ r. ⌜ (r ≡ fireAll k (k .timers) (fired 0 (view k (now (t .entry)) (now (p .entry)))) .count) × Left k (fireAll k (k .timers) (fired 0 (view k (now (t .entry)) (now (p .entry)))) .state) (now (t .exit)) (now (p .exit)) ⌝ }
+    requires { ⌜ RoomWith k (λ s. Raised k s × Waiting k s m (now row) × (m ≤ k .timers)) (now t) (now p) ⌝ }
+    ensures { λ r. ⌜ Does k (λ s. fireAll k (k .timers) (fired 0 s) .count) (λ s. fireAll k (k .timers) (fired 0 s) .state) (now (t .entry)) (now (p .entry)) r (now (t .exit)) (now (p .exit)) ⌝ }
 {
     let mut left = m;
     let mut count: u64 = 0;
@@ -79,8 +79,8 @@ fn fire_row(t: &mut [u64], p: &mut [u8], k: Caps, row: &[u64; MOST_TIMERS], m: u
 
 // The due timers fire, by due time, equal ones by lower slot, while both message pools have room. How many did?
 fn fire_all(t: &mut [u64], p: &mut [u8], k: Caps) -> u64
-    requires { ⌜ Room k (now t) (now p) × Raised k (view k (now t) (now p)) ⌝ }
-    ensures { λ r. ⌜ (r ≡ fireAll k (k .timers) (fired 0 (view k (now (t .entry)) (now (p .entry)))) .count) × Left k (fireAll k (k .timers) (fired 0 (view k (now (t .entry)) (now (p .entry)))) .state) (now (t .exit)) (now (p .exit)) ⌝ }
+    requires { ⌜ RoomWith k (Raised k) (now t) (now p) ⌝ }
+    ensures { λ r. ⌜ Does k (λ s. fireAll k (k .timers) (fired 0 s) .count) (λ s. fireAll k (k .timers) (fired 0 s) .state) (now (t .entry)) (now (p .entry)) r (now (t .exit)) (now (p .exit)) ⌝ }
 {
     let clock = get(t, p, k, CLOCK, 0);
     let mut row = [0u64; MOST_TIMERS];
@@ -91,8 +91,8 @@ fn fire_all(t: &mut [u64], p: &mut [u8], k: Caps) -> u64
 // ---- deadlines
 // The waiting actors whose deadline is at or before the clock become runnable, by deadline, then slot.
 fn rouse(t: &mut [u64], p: &[u8], k: Caps)
-    requires { ⌜ Room k (now t) (now p) × Raised k (view k (now t) (now p)) ⌝ }
-    ensures { λ _. ⌜ Left k (rouse k (k .actors) (view k (now (t .entry)) (now (p .entry)))) (now (t .exit)) (now (p .entry)) ⌝ }
+    requires { ⌜ RoomWith k (Raised k) (now t) (now p) ⌝ }
+    ensures { λ _. ⌜ Makes k (rouse k (k .actors)) (now (t .entry)) (now (p .entry)) (now (t .exit)) (now (p .entry)) ⌝ }
 {
     let clock = get(t, p, k, CLOCK, 0);
     let n = k.actors as u64;

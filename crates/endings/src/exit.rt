@@ -1,22 +1,24 @@
-// Exit: the running actor ends.
+// Exit: an actor ends, step by step, and then its slot is given back.
 ghost use mathlib.Core.Path.{_≡_};
-ghost use Prim.Native.Nat.{suc, _<_};
-ghost use Rattle.tables.specs.Limits.{SAFE};
-ghost use Rattle.tables.specs.State.{view, Room, Left};
+ghost use mathlib.Core.Bool.{true};
+ghost use Prim.Native.Nat.{_<_};
+ghost use Rattle.tables.specs.Columns.{STATE};
+ghost use Rattle.tables.specs.Limits.{MOST-MONITORS};
+ghost use Rattle.tables.specs.State.{Of, Room, RoomWith};
 ghost use Rattle.rules.specs.Sound.{Ready};
-ghost use Rattle.rules.specs.Terms.{actorId, runner};
-ghost use Rattle.rules.specs.Calls.{dropMonitors, dropTimers, exitEntry, farewell, leave, ruled};
+ghost use Rattle.rules.specs.Terms.{alive};
+ghost use Rattle.rules.specs.Calls.{depart, exitEntry, ruled, steps, through};
 ghost use Rattle.rules.specs.Host.{Gives};
-ghost use Rattle.endings.specs.Asked.{Good};
-ghost use Rattle.endings.specs.Counted.{Tells};
+ghost use Rattle.rules.specs.Good.{Good, Ending};
+ghost use Rattle.endings.specs.Counted.{Counted, Few};
+ghost use Rattle.endings.specs.Stepwise.{Midway, STEPS, stepAt};
+use crate::leaving::clear;
 use crate::leaving::drop_monitors;
 use crate::leaving::drop_timers;
-use crate::leaving::leave;
+use crate::leaving::vacate;
 use crate::notices::Count;
 use crate::notices::cut_links;
 use crate::notices::cut_monitors;
-use actions::dropping::drop_all;
-use actions::messages::let_go;
 use rules::Ended;
 use tables::Caps;
 use tables::columns::AGE;
@@ -25,25 +27,50 @@ use tables::limits::ACTOR_FACTOR;
 use tables::limits::LAST_REASON;
 use tables::words::get;
 
-// All of an exit's order up to what the actor owns: its hand and its mailbox, its links, the monitors on it.
-fn farewell(t: &mut [u64], p: &mut [u8], k: Caps, a: u64, me: u32, reason: u16) -> Count
-    requires { ⌜ Room k (now t) (now p) × Good k (view k (now t) (now p)) × (runner (view k (now t) (now p)) ≡ suc a) × (actorId (view k (now t) (now p)) a ≡ me) ⌝ }
-    ensures { λ r. ⌜ Tells k (farewell k a me reason (view k (now (t .entry)) (now (p .entry)))) r (now (t .exit)) (now (p .exit)) ⌝ }
+// How many steps an end has.
+const STEPS: u64 = 5;
+
+// Step i of the end of slot a, whose id is me: an arm for each step.
+fn step(t: &mut [u64], p: &mut [u8], k: Caps, i: u64, a: u64, me: u32, reason: u16) -> Count
+    requires { ⌜ Room k (now t) (now p) × (i < STEPS) × Of k (Midway k a me i) (now t) (now p) ⌝ }
+    ensures { λ r. ⌜ Counted k (stepAt i k a me reason) (now (t .entry)) (now (p .entry)) r (now (t .exit)) (now (p .exit)) × Few r MOST-MONITORS ⌝ }
 {
-    let_go(t, p, k, a);
-    drop_all(t, p, k, a);
-    let n = cut_links(t, p, k, a, me, reason);
-    cut_monitors(t, p, k, n, a, me, reason)
+    match i {
+        0 => clear(t, p, k, a),
+        1 => cut_links(t, p, k, a, me, reason),
+        2 => cut_monitors(t, p, k, a, me, reason),
+        3 => drop_monitors(t, p, k, a),
+        4 => drop_timers(t, p, k, a),
+        _ => Count { sent: 0, lost: 0 },
+    }
 }
 
-// The rest: its own monitors, its timers, its slot.
-fn go(t: &mut [u64], p: &[u8], k: Caps, a: u64)
-    requires { ⌜ Room k (now t) (now p) × (a < SAFE) ⌝ }
-    ensures { λ _. ⌜ Left k (leave (dropTimers a (k .timers) (dropMonitors a (k .monitors) (view k (now (t .entry)) (now (p .entry))))) a) (now (t .exit)) (now (p .entry)) ⌝ }
+// All the steps, one after the other; their notices are added up.
+fn through(t: &mut [u64], p: &mut [u8], k: Caps, a: u64, me: u32, reason: u16) -> Count
+    requires { ⌜ RoomWith k (Ending k a me) (now t) (now p) ⌝ }
+    ensures { λ r. ⌜ Counted k (through steps k a me reason) (now (t .entry)) (now (p .entry)) r (now (t .exit)) (now (p .exit)) ⌝ }
 {
-    drop_monitors(t, p, k, a);
-    drop_timers(t, p, k, a);
-    leave(t, p, k, a);
+    let mut n = Count { sent: 0, lost: 0 };
+    let mut i: u64 = 0;
+    while i < STEPS {
+        let m = step(t, p, k, i, a, me, reason);
+        let sent = n.sent + m.sent;
+        let lost = n.lost + m.lost;
+        n = Count { sent, lost };
+        i += 1;
+    }
+    n
+}
+
+// The actor of slot a ends, whether it runs, is runnable or waits.
+pub fn depart(t: &mut [u64], p: &mut [u8], k: Caps, a: u64, reason: u16) -> Count
+    requires { ⌜ Room k (now t) (now p) × Of k (Good k) (now t) (now p) × Of k (λ s. alive (s STATE) a ≡ true) (now t) (now p) ⌝ }
+    ensures { λ r. ⌜ Counted k (depart k a reason) (now (t .entry)) (now (p .entry)) r (now (t .exit)) (now (p .exit)) ⌝ }
+{
+    let me = get(t, p, k, AGE, a) * ACTOR_FACTOR + a;
+    let n = through(t, p, k, a, me as u32, reason);
+    vacate(t, p, k, a);
+    n
 }
 
 // The running actor ends. 4: nobody runs; 1: no such reason.
@@ -66,10 +93,7 @@ pub fn exit_in(t: &mut [u64], p: &mut [u8], k: Caps, reason: u64) -> Ended
             lost: 0,
         };
     }
-    let a = runner - 1;
-    let me = get(t, p, k, AGE, a) * ACTOR_FACTOR + a;
-    let n = farewell(t, p, k, a, me as u32, reason as u16);
-    go(t, p, k, a);
+    let n = depart(t, p, k, runner - 1, reason as u16);
     Ended {
         no: 0,
         sent: n.sent,

@@ -6,12 +6,13 @@ ghost use lib.ListN.{getD};
 ghost use Rattle.records.specs.Header.{packed};
 ghost use Rattle.records.specs.Records.{exitBytes};
 ghost use Rattle.tables.specs.Columns.{WATCHED};
-ghost use Rattle.tables.specs.Limits.{MOST-ACTORS, SAFE};
-ghost use Rattle.tables.specs.State.{at, view, Room, Left};
+ghost use Rattle.tables.specs.State.{at, Room, Of, RoomWith, Makes};
+ghost use Rattle.tables.specs.Limits.{MOST-ACTORS, MOST-MONITORS, SAFE};
 ghost use Rattle.rules.specs.Actions.{hasRoom, post};
 ghost use Rattle.rules.specs.Calls.{cutLinks, cutMonitor, cutMonitors, tell, told};
-ghost use Rattle.endings.specs.Asked.{Short, Going};
-ghost use Rattle.endings.specs.Counted.{Few, Tells, toldOf};
+ghost use Rattle.endings.specs.Asked.{Short};
+ghost use Rattle.rules.specs.Good.{Going};
+ghost use Rattle.endings.specs.Counted.{Counted, Few, toldOf};
 ghost use Rattle.endings.specs.Partners.{cutEntry};
 use crate::partners::partners;
 use actions::links::tie;
@@ -39,8 +40,8 @@ pub struct Count {
 
 // The notice of an exit goes to slot a.
 fn send_exit(t: &mut [u64], p: &mut [u8], k: Caps, a: u64, me: u32, reason: u16, monitor: u32)
-    requires { ⌜ Room k (now t) (now p) × (hasRoom k (view k (now t) (now p)) ≡ true) × Short (view k (now t) (now p)) × (a < SAFE) ⌝ }
-    ensures { λ _. ⌜ Left k (post k (view k (now (t .entry)) (now (p .entry))) a me (packed 4 1 0) (exitBytes me reason monitor)) (now (t .exit)) (now (p .exit)) ⌝ }
+    requires { ⌜ RoomWith k (λ s. (hasRoom k s ≡ true) × Short s × (a < SAFE)) (now t) (now p) ⌝ }
+    ensures { λ _. ⌜ Makes k (λ s. post k s a me (packed 4 1 0) (exitBytes me reason monitor)) (now (t .entry)) (now (p .entry)) (now (t .exit)) (now (p .exit)) ⌝ }
 {
     let mut bytes = [0u8; 14];
     put_exit(&mut bytes, 0, me, reason, monitor);
@@ -58,8 +59,8 @@ fn tell(
     reason: u16,
     monitor: u32,
 ) -> Count
-    requires { ⌜ Room k (now t) (now p) × Short (view k (now t) (now p)) × (a < SAFE) × Few n SAFE ⌝ }
-    ensures { λ r. ⌜ Tells k (tell k (toldOf n (view k (now (t .entry)) (now (p .entry)))) a me reason monitor) r (now (t .exit)) (now (p .exit)) ⌝ }
+    requires { ⌜ RoomWith k (λ s. Short s × (a < SAFE) × Few n SAFE) (now t) (now p) ⌝ }
+    ensures { λ r. ⌜ Counted k (λ s. tell k (toldOf n s) a me reason monitor) (now (t .entry)) (now (p .entry)) r (now (t .exit)) (now (p .exit)) ⌝ }
 {
     if has_room(t, p, k) {
         send_exit(t, p, k, a, me, reason, monitor);
@@ -86,8 +87,8 @@ fn cut_link(
     b: u64,
     row: &[u64; MOST_ACTORS],
 ) -> Count
-    requires { ⌜ Room k (now t) (now p) × Short (view k (now t) (now p)) × (b < MOST-ACTORS) × Few n SAFE ⌝ }
-    ensures { λ r. ⌜ Tells k (cutEntry k me reason b (getD (now (row .entry)) b 0) (toldOf n (view k (now (t .entry)) (now (p .entry))))) r (now (t .exit)) (now (p .exit)) ⌝ }
+    requires { ⌜ RoomWith k (λ s. Short s × (b < MOST-ACTORS) × Few n SAFE) (now t) (now p) ⌝ }
+    ensures { λ r. ⌜ Counted k (λ s. cutEntry k me reason b (getD (now (row .entry)) b 0) (toldOf n s)) (now (t .entry)) (now (p .entry)) r (now (t .exit)) (now (p .exit)) ⌝ }
 {
     let e = row[b as usize];
     if e == 0 {
@@ -99,8 +100,8 @@ fn cut_link(
 
 // All links of slot a end, by ascending partner slot.
 pub fn cut_links(t: &mut [u64], p: &mut [u8], k: Caps, a: u64, me: u32, reason: u16) -> Count
-    requires { ⌜ Room k (now t) (now p) × Going k a me (view k (now t) (now p)) ⌝ }
-    ensures { λ r. ⌜ Tells k (cutLinks k a me reason (k .actors) (told 0 0 (view k (now (t .entry)) (now (p .entry))))) r (now (t .exit)) (now (p .exit)) × Few r MOST-ACTORS ⌝ }
+    requires { ⌜ RoomWith k (Going k a me) (now t) (now p) ⌝ }
+    ensures { λ r. ⌜ Counted k (λ s. cutLinks k a me reason (k .actors) (told 0 0 s)) (now (t .entry)) (now (p .entry)) r (now (t .exit)) (now (p .exit)) × Few r MOST-ACTORS ⌝ }
 {
     let slots = k.actors as u64;
     let row = partners(t, p, k, a + 1);
@@ -125,8 +126,8 @@ fn cut_eye(
     reason: u16,
     i: u64,
 ) -> Count
-    requires { ⌜ Room k (now t) (now p) × Going k a me (view k (now t) (now p)) × (i < k .monitors) × (at (view k (now t) (now p)) WATCHED i ≡ suc a) × Few n SAFE ⌝ }
-    ensures { λ r. ⌜ Tells k (cutMonitor k a me reason i (toldOf n (view k (now (t .entry)) (now (p .entry))))) r (now (t .exit)) (now (p .exit)) ⌝ }
+    requires { ⌜ RoomWith k (λ s. Going k a me s × (i < k .monitors) × (at s WATCHED i ≡ suc a) × Few n SAFE) (now t) (now p) ⌝ }
+    ensures { λ r. ⌜ Counted k (λ s. cutMonitor k a me reason i (toldOf n s)) (now (t .entry)) (now (p .entry)) r (now (t .exit)) (now (p .exit)) ⌝ }
 {
     let watcher = get(t, p, k, WATCHER, i);
     let age = get(t, p, k, MONITOR_AGE, i);
@@ -154,8 +155,8 @@ fn cut_monitor(
     reason: u16,
     i: u64,
 ) -> Count
-    requires { ⌜ Room k (now t) (now p) × Going k a me (view k (now t) (now p)) × (i < k .monitors) × Few n SAFE ⌝ }
-    ensures { λ r. ⌜ Tells k (cutMonitor k a me reason i (toldOf n (view k (now (t .entry)) (now (p .entry))))) r (now (t .exit)) (now (p .exit)) ⌝ }
+    requires { ⌜ RoomWith k (λ s. Going k a me s × (i < k .monitors) × Few n SAFE) (now t) (now p) ⌝ }
+    ensures { λ r. ⌜ Counted k (λ s. cutMonitor k a me reason i (toldOf n s)) (now (t .entry)) (now (p .entry)) r (now (t .exit)) (now (p .exit)) ⌝ }
 {
     if get(t, p, k, WATCHED, i) == a + 1 {
         return cut_eye(t, p, k, n, a, me, reason, i);
@@ -164,24 +165,16 @@ fn cut_monitor(
 }
 
 // All monitors on slot a end, by ascending monitor slot.
-pub fn cut_monitors(
-    t: &mut [u64],
-    p: &mut [u8],
-    k: Caps,
-    n: Count,
-    a: u64,
-    me: u32,
-    reason: u16,
-) -> Count
-    requires { ⌜ Room k (now t) (now p) × Going k a me (view k (now t) (now p)) × Few n MOST-ACTORS ⌝ }
-    ensures { λ r. ⌜ Tells k (cutMonitors k a me reason (k .monitors) (toldOf n (view k (now (t .entry)) (now (p .entry))))) r (now (t .exit)) (now (p .exit)) ⌝ }
+pub fn cut_monitors(t: &mut [u64], p: &mut [u8], k: Caps, a: u64, me: u32, reason: u16) -> Count
+    requires { ⌜ RoomWith k (Going k a me) (now t) (now p) ⌝ }
+    ensures { λ r. ⌜ Counted k (λ s. cutMonitors k a me reason (k .monitors) (told 0 0 s)) (now (t .entry)) (now (p .entry)) r (now (t .exit)) (now (p .exit)) × Few r MOST-MONITORS ⌝ }
 {
     let slots = k.monitors as u64;
-    let mut m = n;
+    let mut n = Count { sent: 0, lost: 0 };
     let mut i: u64 = 0;
     while i < slots {
-        m = cut_monitor(t, p, k, m, a, me, reason, i);
+        n = cut_monitor(t, p, k, n, a, me, reason, i);
         i += 1;
     }
-    m
+    n
 }

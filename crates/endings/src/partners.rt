@@ -4,7 +4,7 @@ ghost use Prim.Native.Nat.{_≤_};
 ghost use lib.ListN.{length};
 ghost use Rattle.tables.specs.Columns.{LINK-ONE, LINK-TWO};
 ghost use Rattle.tables.specs.Limits.{MOST-ACTORS};
-ghost use Rattle.tables.specs.State.{view, Room};
+ghost use Rattle.tables.specs.State.{Room, Of};
 ghost use Rattle.endings.specs.Partners.{Partners, Placed, otherEnd};
 use tables::Caps;
 use tables::columns::LINK_ONE;
@@ -60,7 +60,7 @@ fn partners_in(one: &[u64], two: &[u64], x: u64, n: usize) -> [u64; MOST_ACTORS]
 // The links that slot x, which is one up, has with each slot.
 pub fn partners(t: &[u64], p: &[u8], k: Caps, x: u64) -> [u64; MOST_ACTORS]
     requires { ⌜ Room k (now t) (now p) ⌝ }
-    ensures { λ r. ⌜ Partners (view k (now (t .entry)) (now (p .entry)) LINK-ONE) (view k (now (t .entry)) (now (p .entry)) LINK-TWO) x (k .links) r ⌝ }
+    ensures { λ r. ⌜ Of k (λ s. Partners (s LINK-ONE) (s LINK-TWO) x (k .links) r) (now (t .entry)) (now (p .entry)) ⌝ }
 {
     partners_in(
         column(t, p, k, LINK_ONE),

@@ -1,4 +1,4 @@
--- A record's call was judged: so the record was replayed. Assumes nothing.
+-- A record's call was judged: so the record was replayed.
 use Prim.Native.Nat.{ℕ, suc, _+_, _-_, _*_, _<_, _≤_}
 use mathlib.Core.Path.{_≡_, refl, sym, ap, subst, _∙_}
 use mathlib.Core.Bool.{Bool, true, false, cond}
@@ -13,7 +13,7 @@ use Rattle.ledger.specs.Call.Op.{notify, receive}
 use Rattle.pools.proofs.BoolLaws.{and-left}
 use Rattle.records.specs.Bytes.{field}
 use Rattle.tables.specs.Limits.{PAYLOAD-MOST}
-use Rattle.trace.specs.Codec.{extent, formed, frontOf, kindOf, numbers, textLength}
+use Rattle.trace.specs.Codec.{extent, formed, frontOf, kindOf, numbersIn, textLength}
 use Rattle.trace.specs.Kinds.{Asked, FIRST, asked, nth, readAs, rowOf, signed, stood}
 use Rattle.trace.specs.Kinds.Asked.{asks, begins, unknown}
 use Rattle.trace.proofs.ReadLaws.{Plain, asked-as, asked-not, formed-long, nth-number, row-below, row-past}
@@ -49,12 +49,12 @@ up l n = omega arith
 
 pub is-advance : (k : ℕ) → 24 ≤ k → k < 34 → Not k 33 → (((((((Unit {0} × Not k 24) × Not k 25) × Not k 26) × Not k 27) × Not k 28) × Not k 29) × Not k 30) × Not k 31 → k ≡ 32
 is-advance k a b n r =
-    let g = up (up (up (up (up (up (up (up a (r .0 .0 .0 .0 .0 .0 .0 .1)) (r .0 .0 .0 .0 .0 .0 .1)) (r .0 .0 .0 .0 .0 .1)) (r .0 .0 .0 .0 .1)) (r .0 .0 .0 .1)) (r .0 .0 .1)) (r .0 .1)) (r .1) in
+    let g : 32 ≤ k = let ((((((((_, n24), n25), n26), n27), n28), n29), n30), n31) = r in up (up (up (up (up (up (up (up a n24) n25) n26) n27) n28) n29) n30) n31 in
     omega (arith, n)
 
 pub is-shown : (k : ℕ) → 17 ≤ k → k < 24 → (((((Unit {0} × Not k 17) × Not k 18) × Not k 19) × Not k 20) × Not k 21) × Not k 22 → k ≡ 23
 is-shown k a b r =
-    let g = up (up (up (up (up (up a (r .0 .0 .0 .0 .0 .1)) (r .0 .0 .0 .0 .1)) (r .0 .0 .0 .1)) (r .0 .0 .1)) (r .0 .1)) (r .1) in
+    let g : 23 ≤ k = let ((((((_, n17), n18), n19), n20), n21), n22) = r in up (up (up (up (up (up a n17) n18) n19) n20) n21) n22 in
     omega arith
 
 pub below : (k : ℕ) → k < 17 → Not k 16 → k < FIRST
@@ -78,13 +78,13 @@ none-short r h = asked-not r (formed-short (rowOf (kindOf r) .shape) r (omega ar
 pub asked-start : (r : List ℕ) → OfKind 16 r → asked r ≡ begins (field 8 4 r) (field 8 12 r) (sizesOf (asksFor r))
 unfolding rowOf
 asked-start r h =
-    let n : (i : ℕ) → i < 8 → nth (numbers 8 (drop 4 r)) i ≡ field 8 (4 + 8 * i) r = λ i l. nth-number 8 i 4 r l in
+    let n : (i : ℕ) → i < 8 → nth (numbersIn 8 (drop 4 r)) i ≡ field 8 (4 + 8 * i) r = λ i l. nth-number 8 i 4 r l in
     asked-as r 16 (h .right) (h .is) ∙ rw (n 1 (omega arith), n 2 (omega arith), n 3 (omega arith), n 4 (omega arith), n 5 (omega arith), n 6 (omega arith), n 7 (omega arith))
 
 pub asked-receive : (r : List ℕ) → OfKind 21 r → asked r ≡ asks (receive (field 8 4 r) (field 8 12 r) (field 8 20 r) (signed (field 8 28 r)))
 unfolding rowOf
 asked-receive r h =
-    let n : (i : ℕ) → i < 4 → nth (numbers 4 (drop 4 r)) i ≡ field 8 (4 + 8 * i) r = λ i l. nth-number 4 i 4 r l in
+    let n : (i : ℕ) → i < 4 → nth (numbersIn 4 (drop 4 r)) i ≡ field 8 (4 + 8 * i) r = λ i l. nth-number 4 i 4 r l in
     asked-as r 21 (h .right) (h .is) ∙ rw (n 1 (omega arith), n 2 (omega arith), n 3 (omega arith))
 
 -- a message, its payload whole or not
@@ -92,7 +92,7 @@ module _ (r : List ℕ) (h : OfKind 20 r) where
   asked-message : asked r ≡ asks (notify (field 8 4 r) (field 8 12 r) (stood (field 8 20 r) (take (cond (leb (field 8 20 r) PAYLOAD-MOST) (field 8 20 r) 0) (drop 28 r))))
   unfolding rowOf
   asked-message =
-      let n : (i : ℕ) → i < 3 → nth (numbers 3 (drop 4 r)) i ≡ field 8 (4 + 8 * i) r = λ i l. nth-number 3 i 4 r l in
+      let n : (i : ℕ) → i < 3 → nth (numbersIn 3 (drop 4 r)) i ≡ field 8 (4 + 8 * i) r = λ i l. nth-number 3 i 4 r l in
       let d : drop 24 (drop 4 r) ≡ drop 28 r = drop-drop 24 4 r in
       asked-as r 20 (h .right) (h .is) ∙ rw (d, n 1 (omega arith), n 2 (omega arith))
 
@@ -102,7 +102,7 @@ module _ (r : List ℕ) (h : OfKind 20 r) where
       let s = rowOf 20 .shape in
       let f : formed s r ≡ true = rw (h .is) at (h .right) in
       let e : length r ≡ extent s (frontOf s r) = eqb-true _ _ (and-left (eqb (length r) (extent s (frontOf s r))) _ f) in
-      let n : nth (numbers 3 (drop 4 r)) 2 ≡ field 8 20 r = nth-number 3 2 4 r (omega arith) in
+      let n : nth (numbersIn 3 (drop 4 r)) 2 ≡ field 8 20 r = nth-number 3 2 4 r (omega arith) in
       let t : textLength s (frontOf s r) ≡ cond (leb (field 8 20 r) PAYLOAD-MOST) (field 8 20 r) 0 = rw n in
       omega arith
 

@@ -1,4 +1,4 @@
--- What was called and what was compared, put together. Assumes nothing.
+-- What was called and what was compared, put together.
 use Prim.Native.Nat.{ℕ, _^_, _<_, _≤_}
 use mathlib.Core.Path.{_≡_, refl, sym, ap, subst, _∙_, fun-ext}
 use mathlib.Core.Bool.{Bool}

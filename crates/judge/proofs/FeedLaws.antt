@@ -1,4 +1,4 @@
--- A piece of a trace, record by record. Assumes nothing.
+-- A piece of a trace, record by record.
 use Prim.Native.Nat.{ℕ, suc, _+_, _-_, _*_, _<_, _≤_}
 use mathlib.Core.Path.{_≡_, refl, sym, ap, _∙_}
 use mathlib.Core.Bool.{Bool, true, false, _||_}
@@ -13,7 +13,7 @@ use Rattle.pools.proofs.BoolLaws.{true-false}
 use Rattle.records.specs.Bytes.{field, ofLe}
 use Rattle.tables.specs.Limits.{ENTRY-BYTES, MOST-DATAS, WORDS-MOST}
 use Rattle.trace.specs.Kinds.{asked}
-use Rattle.trace.specs.Verdict.{Taken, extentOf, goesOn, taken, verdictFrom}
+use Rattle.trace.specs.Verdict.{Taken, extentOf, goesOn, judged, verdictFrom}
 use Rattle.trace.specs.Verdict.Verdict.{bad}
 use Rattle.trace.proofs.StepLaws.{from-whole}
 use Rattle.judge.specs.Feeding.{Bench, Comes, Judges, standing, unfinished}
@@ -64,13 +64,13 @@ module _ {n : ℕ} {w₀ p₀ bs w p : List ℕ} {count used : ℕ} (h : Reached
 
   -- the verdict after it
   onward : (rest : List ℕ) →
-      verdictFrom n (standing (isFirst n) w₀ p₀) (bs ++ rest) ≡ goesOn (taken (standing (isFirst count) w p) it) (λ t. verdictFrom (suc count) t (rest-of rest)) (bad count)
+      verdictFrom n (standing (isFirst n) w₀ p₀) (bs ++ rest) ≡ goesOn (judged (standing (isFirst count) w p) it) (λ t. verdictFrom (suc count) t (rest-of rest)) (bad count)
   onward rest =
       h .same rest ∙ ap (verdictFrom count (standing (isFirst count) w p)) (it-first rest)
       ∙ from-whole count (standing (isFirst count) w p) it (rest-of rest) (omega (arith, it-length)) it-says
 
   module _ (b : Bool) (w′ p′ : List ℕ) (j : Replayed (asked it) (isFirst count) w p it b w′ p′) where
-    came : Comes (taken (standing (isFirst count) w p) it) b w′ p′
+    came : Comes (judged (standing (isFirst count) w p) it) b w′ p′
     came = replayed-comes (isFirst count) w p it b w′ p′ (h .bench) j
 
     -- it is right

@@ -1,4 +1,4 @@
--- The forms as the code has them are those of the table of kinds, and a record has the form of its kind where its length says so. Assumes nothing.
+-- The forms as the code has them are those of the table of kinds, and a record has the form of its kind where its length says so.
 use Prim.Native.Nat.{ℕ, zero, suc, _+_, _-_, _*_, _<_, _≤_}
 use mathlib.Core.Path.{_≡_, refl, sym, ap, _∙_}
 use mathlib.Core.Bool.{Bool, true, false, cond, _&&_}

@@ -1,4 +1,4 @@
--- Bytes moved to the front of a buffer, one by one. Assumes nothing.
+-- Bytes moved to the front of a buffer, one by one.
 use Prim.Native.Nat.{ℕ, suc, _+_, _-_, _<_, _≤_}
 use mathlib.Core.Path.{_≡_, sym, ap, _∙_}
 use mathlib.Core.List.{List, [], _∷_, _++_, append-assoc}

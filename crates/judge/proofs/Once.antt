@@ -1,4 +1,4 @@
--- No second judgement of a record, and no second pair of buffers after it, meets the promise of fg_replay. Assumes nothing.
+-- No second judgement of a record, and no second pair of buffers after it, meets the promise of fg_replay.
 use Prim.Native.Nat.{ℕ}
 use mathlib.Core.Path.{_≡_, sym, ap, _∙_}
 use mathlib.Core.Bool.{Bool, true, false, cond, not, _&&_}
@@ -7,7 +7,7 @@ use lib.Dec.{eqb}
 use Rattle.ledger.specs.Call.{Answer}
 use Rattle.ledger.specs.Call.Answer.{plain}
 use Rattle.ledger.specs.Call.Call.{start, op}
-use Rattle.rules.proofs.HostLaws.{meets-once}
+use Rattle.rules.proofs.Stories.Host.{meets-once}
 use Rattle.trace.specs.Kinds.{Asked, encode}
 use Rattle.trace.specs.Kinds.Asked.{unknown, begins, asks}
 use Rattle.trace.specs.Verdict.{same}

@@ -1,4 +1,4 @@
--- A record replayed on two buffers is judged as the definition of the verdict says, and leaves what stands after it. Assumes nothing.
+-- A record replayed on two buffers is judged as the definition of the verdict says, and leaves what stands after it.
 use Prim.Native.Nat.{ℕ, _*_, _≤_}
 use mathlib.Core.Path.{_≡_, refl, sym, ap, _∙_}
 use mathlib.Core.Bool.{Bool, true, false, cond, _&&_}
@@ -18,14 +18,14 @@ use Rattle.rules.specs.Host.{canStart}
 use Rattle.rules.specs.Run.{step}
 use Rattle.rules.specs.Story.{Meets, capsFrom}
 use Rattle.rules.specs.Trim.{newly, trim}
-use Rattle.rules.proofs.Past.{line-past}
-use Rattle.rules.proofs.RuleLaws.{reads}
-use Rattle.rules.proofs.SoundLaws.{range-of}
-use Rattle.rules.proofs.StoryPlays.{can-start, hold, hold-line, start-holds}
-use Rattle.rules.proofs.Trim.{trim-fresh, trim-step}
+use Rattle.rules.proofs.Frames.Past.{line-past}
+use Rattle.rules.proofs.Kept.Rules.{reads}
+use Rattle.rules.proofs.Kept.Sound.{range-of}
+use Rattle.rules.proofs.Stories.Plays.{can-start, hold, hold-line, start-holds}
+use Rattle.rules.proofs.Frames.Trim.{trim-fresh, trim-step}
 use Rattle.trace.specs.Kinds.{Asked, asked, encode}
 use Rattle.trace.specs.Kinds.Asked.{unknown, begins, asks}
-use Rattle.trace.specs.Verdict.{Stand, canBegin, matched, said, same, taken}
+use Rattle.trace.specs.Verdict.{Stand, canBegin, matched, rightOne, same, judged}
 use Rattle.trace.specs.Verdict.Stand.{stands}
 use Rattle.trace.specs.Verdict.Taken.{go, stop}
 use Rattle.judge.specs.Feeding.{Bench, Comes, standing}
@@ -60,8 +60,8 @@ comes-so : (x r : List ℕ) (s : Stand) {b : Bool} {w′ p′ : List ℕ} → b 
 comes-so x r s e f g = record { right = λ q. (rw (sym e ∙ q) (ap go f), g); wrong = λ q. rw (sym e ∙ q) }
 
 -- a call that is no start
-comes-call : (o : Op) (w p r : List ℕ) (b : Bool) (w′ p′ : List ℕ) → Bench false w p → Judged o w p r b w′ p′ → Comes (matched (said (asks o) (standing false w p)) r) b w′ p′
-unfolding said
+comes-call : (o : Op) (w p r : List ℕ) (b : Bool) (w′ p′ : List ℕ) → Bench false w p → Judged o w p r b w′ p′ → Comes (matched (rightOne (asks o) (standing false w p)) r) b w′ p′
+unfolding rightOne
 comes-call o w p r b w′ p′ h j =
     let k = capsOf w in
     let s = viewOf w p in
@@ -95,8 +95,8 @@ module _ (m n : ℕ) (z : Sizes) {first : Bool} (w p r : List ℕ) (b : Bool) (w
   not-so q = let g = j .began in (rw q at (g .ans), rw q at (g .table), rw q at (g .area))
 
 comes-start : (m n : ℕ) (z : Sizes) (first : Bool) (w p r : List ℕ) (b : Bool) (w′ p′ : List ℕ) → Bench first w p → Begun m n z first w p r b w′ p′ →
-    Comes (matched (said (begins m n z) (standing first w p)) r) b w′ p′
-unfolding said
+    Comes (matched (rightOne (begins m n z) (standing first w p)) r) b w′ p′
+unfolding rightOne
 comes-start m n z true w p r b w′ p′ h j =
     split (canBegin (capsFrom z) m n)
     (λ q. rw q (done-so m n z w p r b w′ p′ h j q))
@@ -111,12 +111,12 @@ comes-start m n z false w p r b w′ p′ h j =
     rw (q, x .1, x .2) (comes-so (encode m n (start z) (plain 1)) r (standing false w p) e refl h))
 
 -- THE THEOREM: what a record does on the buffers is what the definition says of what stands in them
-comes : (a : Asked) (first : Bool) (w p r : List ℕ) (b : Bool) (w′ p′ : List ℕ) → Bench first w p → Replayed a first w p r b w′ p′ → Comes (matched (said a (standing first w p)) r) b w′ p′
-unfolding said
+comes : (a : Asked) (first : Bool) (w p r : List ℕ) (b : Bool) (w′ p′ : List ℕ) → Bench first w p → Replayed a first w p r b w′ p′ → Comes (matched (rightOne a (standing first w p)) r) b w′ p′
+unfolding rightOne
 comes unknown first w p r b w′ p′ h j = comes-not j
 comes (begins m n z) first w p r b w′ p′ h j = comes-start m n z first w p r b w′ p′ h j
 comes (asks o) true w p r b w′ p′ h j = comes-not j
 comes (asks o) false w p r b w′ p′ h j = comes-call o w p r b w′ p′ h j
 
-pub replayed-comes : (first : Bool) (w p r : List ℕ) (b : Bool) (w′ p′ : List ℕ) → Bench first w p → Replayed (asked r) first w p r b w′ p′ → Comes (taken (standing first w p) r) b w′ p′
+pub replayed-comes : (first : Bool) (w p r : List ℕ) (b : Bool) (w′ p′ : List ℕ) → Bench first w p → Replayed (asked r) first w p r b w′ p′ → Comes (judged (standing first w p) r) b w′ p′
 replayed-comes first w p r b w′ p′ h j = comes (asked r) first w p r b w′ p′ h j

@@ -1,4 +1,4 @@
--- Reading an input piece by piece, in fixed memory, gives the verdict on the whole of it. Assumes nothing.
+-- Reading an input piece by piece, in fixed memory, gives the verdict on the whole of it.
 use Prim.Native.Nat.{ℕ}
 use mathlib.Core.Path.{_≡_, refl, sym, ap, _∙_}
 use mathlib.Core.Bool.{true}

@@ -1,4 +1,4 @@
--- A start made as its record asks. Assumes nothing.
+-- A start made as its record asks.
 use Prim.Native.Nat.{ℕ}
 use mathlib.Core.Path.{_≡_, sym, ap, subst, _∙_}
 use mathlib.Core.Bool.{Bool, true, false, not, _&&_}

@@ -18,7 +18,7 @@ use Rattle.rules.specs.Story.{Meets, Story}
 use Rattle.trace.specs.Codec.{Small, bytes, kindOf, note}
 use Rattle.trace.specs.Kinds.{Fits, abridged, asked, encode, lengthRight, opening, rowOf, startArgs}
 use Rattle.trace.specs.Kinds.Asked.{asks, begins}
-use Rattle.trace.specs.Verdict.{Verdict, taken, verdict}
+use Rattle.trace.specs.Verdict.{Verdict, judged, verdict}
 use Rattle.trace.specs.Verdict.Verdict.{ok}
 use Rattle.trace.specs.Writing.{Fitted, Means, done, written}
 use Rattle.trace.proofs.Inverse.{decode-encode, encode-decode, one-call}
@@ -69,7 +69,7 @@ verdict-means = verdict-exactly
 
 -- ---- THE REPLAY
 -- what fg_replay does with a record on two buffers is what the definition of the verdict says of what stands in them
-pub step-right : (first : Bool) (w p r : List ℕ) (b : Bool) (w′ p′ : List ℕ) → Bench first w p → Replayed (asked r) first w p r b w′ p′ → Comes (taken (standing first w p) r) b w′ p′
+pub step-right : (first : Bool) (w p r : List ℕ) (b : Bool) (w′ p′ : List ℕ) → Bench first w p → Replayed (asked r) first w p r b w′ p′ → Comes (judged (standing first w p) r) b w′ p′
 step-right = replayed-comes
 
 -- no second judgement and no second pair of buffers meets its promise

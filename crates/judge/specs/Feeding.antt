@@ -1,4 +1,4 @@
--- A trace judged piece by piece: what stands in two buffers between two records, and what a piece of the trace comes to. Assumes nothing.
+-- A trace judged piece by piece: what stands in two buffers between two records, and what a piece of the trace comes to.
 use Prim.Native.Nat.{ℕ, _*_, _≤_}
 use mathlib.Core.Path.{_≡_}
 use mathlib.Core.Bool.{Bool, true, false, cond, _||_}

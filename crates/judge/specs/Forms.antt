@@ -1,4 +1,4 @@
--- A form as the code has it. Assumes nothing.
+-- A form as the code has it.
 use Rattle.trace.specs.Codec.{Form as Shape, form}
 use Rattle.judge.specs.declared.forms.Form.{Form}
 

@@ -1,4 +1,4 @@
--- What a record of a trace does on two buffers, and whether it is right there. Every field is an equation, so nothing else meets it. Assumes nothing.
+-- What a record of a trace does on two buffers, and whether it is right there. Every field is an equation, so nothing else meets it.
 use Prim.Native.Nat.{ℕ}
 use mathlib.Core.Path.{_≡_}
 use mathlib.Core.Bool.{Bool, true, false, cond, not, _&&_}

@@ -55,7 +55,7 @@ fn receive(t: &mut [u64], p: &mut [u8], r: &[u8]) -> bool
 }
 
 // Kinds 17 to 23.
-fn early(t: &mut [u64], p: &mut [u8], r: &[u8], kind: u16) -> bool
+fn lower_kinds(t: &mut [u64], p: &mut [u8], r: &[u8], kind: u16) -> bool
     requires { ⌜ OfKind kind (now r) × (17 ≤ kind) × (kind < 24) ⌝ }
     ensures { λ b. ⌜ Replayed (asked (now (r .entry))) false (now (t .entry)) (now (p .entry)) (now (r .entry)) b (now (t .exit)) (now (p .exit)) ⌝ }
 {
@@ -71,7 +71,7 @@ fn early(t: &mut [u64], p: &mut [u8], r: &[u8], kind: u16) -> bool
 }
 
 // Kinds 24 to 33.
-fn late(t: &mut [u64], p: &mut [u8], r: &[u8], kind: u16) -> bool
+fn upper_kinds(t: &mut [u64], p: &mut [u8], r: &[u8], kind: u16) -> bool
     requires { ⌜ OfKind kind (now r) × (24 ≤ kind) × (kind < 34) ⌝ }
     ensures { λ b. ⌜ Replayed (asked (now (r .entry))) false (now (t .entry)) (now (p .entry)) (now (r .entry)) b (now (t .exit)) (now (p .exit)) ⌝ }
 {
@@ -101,10 +101,10 @@ fn other(t: &mut [u64], p: &mut [u8], r: &[u8], kind: u16) -> bool
         return false;
     }
     if kind < 24 {
-        return early(t, p, r, kind);
+        return lower_kinds(t, p, r, kind);
     }
     if kind < 34 {
-        return late(t, p, r, kind);
+        return upper_kinds(t, p, r, kind);
     }
     false
 }

@@ -1,4 +1,4 @@
--- What is left of an actor that has ended: nothing. Assumes nothing.
+-- What is left of an actor that has ended: nothing.
 use Prim.Native.Nat.{ℕ}
 use mathlib.Core.Path.{_≡_}
 use mathlib.Core.Bool.{false, _||_}

@@ -1,4 +1,4 @@
--- What the reckoning keeps: who and what is there. Things go by their ids, never by where they are kept. Assumes nothing.
+-- What the reckoning keeps: who and what is there. Things go by their ids, never by where they are kept.
 use Prim.Native.Nat.{ℕ}
 use mathlib.Core.List.{List, []}
 use Rattle.ledger.specs.Call.{Sizes}

@@ -1,4 +1,4 @@
--- The limits of document 01 by name. Assumes nothing.
+-- The limits of document 01 by name.
 use Prim.Native.Nat.{ℕ, _-_, _^_}
 
 -- ---- ids: "An actor or timer id is age × 64 + slot, a monitor id age × 128 + slot"; every slot is below the factor

@@ -1,5 +1,5 @@
 -- Pools, as tests of their entries' numbers: the lowest that passes, how many pass, and what a change at one entry does to the count.
--- All is over the number n of entries. Assumes nothing.
+-- All is over the number n of entries.
 use mathlib.Core.Path.{_≡_, refl, sym, ap, _∙_}
 use mathlib.Core.Logic.{_↔_}
 use mathlib.Core.Bool.{Bool, true, false, not}

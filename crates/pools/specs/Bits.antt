@@ -1,4 +1,4 @@
--- "One bit per mailbox and data entry says whether it is free": bit i % 64 of word i / 64 is 1 where entry i is free. Assumes nothing.
+-- "One bit per mailbox and data entry says whether it is free": bit i % 64 of word i / 64 is 1 where entry i is free.
 use Prim.Native.Nat.{ℕ, _+_, _-_, _*_, _/_, _%_, _^_}
 use mathlib.Core.Bool.{Bool}
 use mathlib.Core.List.{List}

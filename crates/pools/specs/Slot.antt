@@ -1,4 +1,4 @@
--- Slots with ages. A slot's word is 0 while nobody uses it; its age counts its uses. F is the factor of the ids, M the largest age. Assumes nothing.
+-- Slots with ages. A slot's word is 0 while nobody uses it; its age counts its uses. F is the factor of the ids, M the largest age.
 use Prim.Native.Nat.{ℕ, _+_, _*_, _/_, _%_, _≤_}
 use mathlib.Core.Path.{_≡_}
 use mathlib.Core.Bool.{Bool, _&&_, not}

@@ -8,7 +8,7 @@ ghost use Rattle.pools.specs.Bits.{WORD-BITS, bit, free, taken, released
 pub const WORD_BITS: usize = 64;
 
 // The number whose one bit is bit k.
-fn power(k: usize) -> u64
+pub fn power(k: usize) -> u64
     requires { ⌜ k < WORD-BITS ⌝ }
     ensures { λ r. ⌜ r ≡ 2 ^ k ⌝ }
 {
@@ -16,7 +16,7 @@ fn power(k: usize) -> u64
 }
 
 // Bit k of x.
-fn bit_of(x: u64, k: usize) -> u64
+pub fn bit_of(x: u64, k: usize) -> u64
     requires { ⌜ k < WORD-BITS ⌝ }
     ensures { λ r. ⌜ r ≡ bit x k ⌝ }
 {

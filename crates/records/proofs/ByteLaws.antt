@@ -1,4 +1,4 @@
--- Bytes and numbers: each law once, over the width. Assumes nothing.
+-- Bytes and numbers: each law once, over the width.
 use Prim.Native.Nat.{ℕ, zero, suc, _+_, _*_, _/_, _%_, _-_, _^_, _<_, _≤_}
 use mathlib.Core.Path.{_≡_, refl, ap, sym, _∙_}
 use mathlib.Core.List.{List, [], _∷_, _++_, append-assoc}

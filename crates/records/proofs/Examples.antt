@@ -1,4 +1,4 @@
--- The bench examples of bytes: one table, and one statement of all its rows. Assumes nothing.
+-- The bench examples of bytes: one table, and one statement of all its rows.
 use mathlib.Core.Path.{_≡_, refl}
 use mathlib.Core.List.{List, [], _∷_, map}
 use Prim.Native.Nat.{ℕ}

@@ -1,5 +1,4 @@
 -- Records: what was written reads back, whatever reads as a record is what the writer writes, and no promise allows a second answer.
--- Assumes nothing.
 use Prim.Native.Nat.{ℕ, _+_, _^_, _<_, _≤_}
 use mathlib.Core.Bool.{Bool, true, false, cond, _&&_}
 use mathlib.Core.Path.{_≡_, refl, ap, sym, _∙_}

@@ -1,4 +1,4 @@
--- The records in runtime messages. Assumes nothing.
+-- The records in runtime messages.
 use Prim.Native.Nat.{ℕ, _+_}
 use mathlib.Core.Path.{_≡_}
 use mathlib.Core.Bool.{Bool, cond, _&&_}

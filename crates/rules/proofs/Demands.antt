@@ -1,5 +1,6 @@
 -- THE THEOREMS, on one page. Somebody lends two buffers, whatever they hold. All that is known of a call on them is its promise, `Meets`, which is the contract of its function in
--- runtime/src; nobody else writes the buffers. Nothing else is assumed.
+-- runtime/src; nobody else writes the buffers. Nothing else is assumed. w and p are the words and bytes before a call, w′ and p′ those after it; c is a call, o one but start, r its answer,
+-- z the sizes that a start asks for, k capacities, s a state, l what the reckoning says.
 use Prim.Native.Nat.{ℕ, _+_, _≤_}
 use mathlib.Core.Path.{_≡_}
 use mathlib.Core.Logic.{_↔_}
@@ -15,7 +16,7 @@ use Rattle.ledger.specs.Call.Op.{advance, exit, next, receive, show, shown}
 use Rattle.ledger.specs.Ended.{Unaimed}
 use Rattle.ledger.specs.Ledger.{Ledger, Message, nothing}
 use Rattle.ledger.specs.Lists.{those}
-use Rattle.ledger.specs.Reckon.{entered, firedTimers, firings, later, leaf, notices, page, reckon, short, verdict}
+use Rattle.ledger.specs.Reckon.{entered, firedTimers, firings, later, leaf, notices, page, reckon, short, refusalDue}
 use Rattle.ledger.specs.Room.{inHand, known}
 use Rattle.pools.specs.Pool.{occurs}
 use Rattle.tables.specs.State.{PastSame, capsOf, needed, neededP}
@@ -28,16 +29,16 @@ use Rattle.rules.specs.Calls.{Sleeps}
 use Rattle.rules.specs.Run.{sayShown, seven}
 use Rattle.rules.specs.Story.{Aims, Kept, Meets, Story, capsFor, capsFrom, line, startless}
 use Rattle.rules.specs.Trim.{NeededSame}
-use Rattle.rules.proofs.Counts.{advance-once, line-notices, line-ticks}
-use Rattle.rules.proofs.HostLaws.{meets-broken, meets-once}
-use Rattle.rules.proofs.Keep.{good-view}
-use Rattle.rules.proofs.Past.{line-past}
-use Rattle.rules.proofs.Showing.{show-is-shown}
-use Rattle.rules.proofs.Sleep.{line-sleep}
-use Rattle.rules.proofs.Story.{begun-kept, story-kept}
-use Rattle.rules.proofs.StoryAnswers.{line-counts, line-in-hand, line-refusal, line-refused, line-seven, line-two, line-unmet, line-unshown}
-use Rattle.rules.proofs.StoryEnds.{ended-stays-ended, strange-line}
-use Rattle.rules.proofs.Unread.{fresh-alike, line-unread}
+use Rattle.rules.proofs.Reckoned.Counts.{advance-once, line-notices, line-ticks}
+use Rattle.rules.proofs.Stories.Host.{meets-broken, meets-once}
+use Rattle.rules.proofs.Kept.Host.{good-view}
+use Rattle.rules.proofs.Frames.Past.{line-past}
+use Rattle.rules.proofs.Stories.Showing.{show-is-shown}
+use Rattle.rules.proofs.Reckoned.Sleep.{line-sleep}
+use Rattle.rules.proofs.Stories.Story.{begun-kept, story-kept}
+use Rattle.rules.proofs.Stories.Answers.{line-counts, line-in-hand, line-refusal, line-refused, line-seven, line-two, line-unmet, line-unshown}
+use Rattle.rules.proofs.Stories.Ends.{ended-stays-ended, strange-line}
+use Rattle.rules.proofs.Frames.Unread.{fresh-alike, line-unread}
 
 -- ---- DEMAND 1, of every call on any two buffers
 module _ (c : Call) (w p : List ℕ) (r : Answer) (w′ p′ : List ℕ) (meets : Meets c w p r w′ p′) where
@@ -53,7 +54,7 @@ module _ (c : Call) (w p : List ℕ) (r : Answer) (w′ p′ : List ℕ) (meets 
   pub past-unread : (v q : List ℕ) → NeededSame (capsFor c w) w p v q → (r₂ : Answer) (v′ q′ : List ℕ) → Meets c v q r₂ v′ q′ → (r₂ ≡ r) × NeededSame (capsFor c w) w′ p′ v′ q′
   past-unread v q e r₂ v′ q′ = line-unread c w p v q e r r₂ w′ p′ v′ q′ meets
 
-  -- DEMAND 2: no other answer and no other buffers meet the promise
+  -- DEMAND 2 is `Meets` itself, the rule of each call (specs/Calls.antt): no other answer and no other buffers meet the promise
   pub only-one : (r₂ : Answer) (w₂ p₂ : List ℕ) → Meets c w p r₂ w₂ p₂ → (r ≡ r₂) × (w′ ≡ w₂) × (p′ ≡ p₂)
   only-one r₂ w₂ p₂ = meets-once c w p meets
 
@@ -100,15 +101,15 @@ module _ (z : Sizes) {w p w₁ p₁ w₂ p₂ : List ℕ} {xs : List Line} (bega
     counts-right = line-counts c there w₂ p₂ r w₃ p₃ meets demand-three
 
   -- every refusal of every call but start, exactly when it is the first that applies, by what is there
-  pub refusal-due : (o : Op) (r : Answer) (w₃ p₃ : List ℕ) → Meets (op o) w₂ p₂ r w₃ p₃ → numbered r ≡ true → (y : Why) → (number r ≡ code y) ↔ (verdict there (op o) ≡ code y)
+  pub refusal-due : (o : Op) (r : Answer) (w₃ p₃ : List ℕ) → Meets (op o) w₂ p₂ r w₃ p₃ → numbered r ≡ true → (y : Why) → (number r ≡ code y) ↔ (refusalDue there (op o) ≡ code y)
   refusal-due o r w₃ p₃ m n y = line-refusal o y there w₂ p₂ r w₃ p₃ m demand-three n
 
   -- what is shown: nothing where a refusal applies, that is where nobody runs or the hand is empty
-  pub shown-empty : (y : Why) (r : Answer) (w₃ p₃ : List ℕ) → Meets (op show) w₂ p₂ r w₃ p₃ → verdict there (op show) ≡ code y → r ≡ part []
+  pub shown-empty : (y : Why) (r : Answer) (w₃ p₃ : List ℕ) → Meets (op show) w₂ p₂ r w₃ p₃ → refusalDue there (op show) ≡ code y → r ≡ part []
   shown-empty y r w₃ p₃ m = line-unshown y there w₂ p₂ r w₃ p₃ m demand-three
 
   -- else the bytes of the message in the caller's hand
-  pub shown-exactly : (r : Answer) (w₃ p₃ : List ℕ) → Meets (op show) w₂ p₂ r w₃ p₃ → verdict there (op show) ≡ 0 → (m : Message) × (inHand there ≡ m ∷ []) × (r ≡ part (spelled (m .says)))
+  pub shown-exactly : (r : Answer) (w₃ p₃ : List ℕ) → Meets (op show) w₂ p₂ r w₃ p₃ → refusalDue there (op show) ≡ 0 → (m : Message) × (inHand there ≡ m ∷ []) × (r ≡ part (spelled (m .says)))
   shown-exactly r w₃ p₃ m = line-in-hand there w₂ p₂ r w₃ p₃ m demand-three
 
   -- beside next's 6 stands the time to sleep: until then nothing is to be done, and then something is; -1 where nothing ever is
@@ -129,7 +130,7 @@ module _ (z : Sizes) {w p w₁ p₁ w₂ p₂ : List ℕ} {xs : List Line} (bega
       × (sent + lost ≡ length (notices there (there .people .running) reason))
   notices-arrive reason sent lost w₃ p₃ = line-notices there w₂ p₂ w₃ p₃ demand-three reason sent lost
 
-  -- no timer fires twice in one advance
+  -- no timer fires twice in one advance, as the reckoning has it; `ticks-arrive` ties it to the call
   pub fires-once : (micros id : ℕ) → occurs id (map (λ t. t .id) (firedTimers (firings (later micros there)) (later micros there))) ≤ 1
   fires-once micros id = advance-once (capsOf w₂) (viewOf w₂ p₂) there (good-view w₂ p₂ (demand-three .sound)) (demand-three .agrees) micros id
 

@@ -1,11 +1,10 @@
--- What is proved of each call, in one table; and from it what is so of every call. Assumes nothing.
+-- What is proved of each call but start (Kept/Start.antt), in one table; and from it what is so of every call. Claims.antt says what is to be proved.
 use Prim.Native.Nat.{ℕ, _-_, _≤_}
 use native.Mathlib.Omega.{arith}
 use mathlib.Core.Path.{_≡_, refl, sym, ap, subst, _∙_}
 use mathlib.Core.Logic.{_⊎_, inl, inr, ⊎-elim, _↔_}
-use mathlib.Core.Bool.{true, false, not, _||_}
+use mathlib.Core.Bool.{Bool, true, false, not, _&&_, _||_}
 use mathlib.Core.List.{List, [], _∷_, _++_, map}
-use lib.ListN.{take}
 use lib.IntN.{ℤ}
 use lib.Dec.{eqb, ltb}
 use borrow.Author.Tests.{eq-eqb, eqb-false, eqb-true, ne-eqb}
@@ -14,37 +13,45 @@ use Rattle.ledger.specs.Call.Call.{op}
 use Rattle.ledger.specs.Call.Found.{all, nothing, waits}
 use Rattle.ledger.specs.Call.Why.{full}
 use Rattle.ledger.specs.Call.Op.{spawn, next, yield, notify, receive, show, shown, after, every, cancel, link, unlink, monitor, demonitor, exit, advance, report}
-use Rattle.ledger.specs.Ledger.{Ledger, Message, Says}
-use Rattle.ledger.specs.Reckon.{cleared, departed, endLinks, endMonitors, endTimers, entered, firings, gone, later, letGo as released, linked, message, notices, page, sendings, short, taken, ticks, verdict, wanted}
+use Rattle.ledger.specs.Ledger.{Actor, Ledger, Message, People, Says}
+use Rattle.ledger.specs.Reckon.{cleared, departed, endLinks, endMonitors, endTimers, entered, firings, gone, later, emptyHanded as released, linked, message, page, short, pickedUp, ticks, refusalDue, wanted}
+use Rattle.ledger.specs.Lists.{some, those}
 use Rattle.ledger.specs.Room.{holds, idle}
-use Rattle.pools.proofs.BoolLaws.{split, true-false}
+use Rattle.pools.proofs.BoolLaws.{and-right, split, true-false}
 use Rattle.tables.specs.declared.Caps.{Caps}
-use Rattle.tables.specs.Columns.{AGE, ARRIVED, QUEUED}
+use Rattle.tables.specs.Columns.{AGE, ARRIVED, QUEUED, RUNNING}
 use Rattle.tables.specs.Limits.{LEVELS, LONGEST}
 use Rattle.tables.specs.State.{State, at, head}
+use Rattle.rules.specs.Aged.{monitorPool, timerPool}
 use Rattle.rules.specs.Terms.{runner}
 use Rattle.rules.specs.Actions.{letGo}
 use Rattle.rules.specs.Agrees.{Agrees}
 use Rattle.rules.specs.Calls.{Ans, Out, Shape, entry, firstHead, firstMatch, notAtAll, ordered, out, receiveBare, refusal, ruled}
 use Rattle.rules.specs.Calls.Shape.{aNumber, anId, aTurn, aMessage, aPart, aPlace, anEnd, anAdvance, aReport}
 use Rattle.rules.specs.Run.{numbers, said, say, step}
-use Rattle.rules.proofs.Advance.{advance-agrees, advance-counts, advance-keeps, advance-same}
-use Rattle.rules.proofs.Ages.{framed, spawn-framed}
-use Rattle.rules.proofs.CallFrames.{beside-advance, beside-arm, beside-cancel, beside-demonitor, beside-exit, beside-link, beside-monitor, beside-next, beside-notify, beside-receive, beside-unlink, beside-yield}
+use Rattle.rules.proofs.Reckoned.Clock.{advance-agrees, advance-counts, advance-keeps, advance-same}
+use Rattle.rules.proofs.Frames.Pools.{use-begins, use-ends}
+use Rattle.rules.proofs.Frames.Ages.{framed, spawn-framed}
+use Rattle.rules.proofs.Frames.Calls.{beside-advance, beside-arm, beside-link, beside-next, beside-receive}
 use Rattle.rules.proofs.Claims.{Agreed, Counted, Framed, Keeps, Silent, Speaks, Tested}
-use Rattle.rules.proofs.Exit.{exit-keeps}
-use Rattle.rules.proofs.ExitAgrees.{exit-agrees, exit-counts, exit-same}
-use Rattle.rules.proofs.Frame.{Beside, beside-still}
-use Rattle.rules.proofs.Good.{Good}
-use Rattle.rules.proofs.GuardLaws.{Passed, found-well, guarded-all, guarded-heard, guarded-numbers, guarded-yes, oneOf, why-found, why-refuses}
-use Rattle.rules.proofs.Messages.{notify-keeps, receive-keeps}
-use Rattle.rules.proofs.MessagesAgree.{notify-agrees, notify-same, receive-agrees, receive-same}
-use Rattle.rules.proofs.PageLaws.{Paged, fires-boxes, fires-people, more-some, quietly, those-some, within-all, within-but, within-end, within-more, within-those, Within}
-use Rattle.rules.proofs.Running.{next-keeps, spawn-keeps, yield-keeps}
-use Rattle.rules.proofs.RunningAgrees.{next-agrees, next-same, report-counts, shown-same, spawn-agrees, spawn-same, yield-agrees, yield-same}
-use Rattle.rules.proofs.SameTests.{same-first}
-use Rattle.rules.proofs.Ties.{after-keeps, cancel-keeps, demonitor-keeps, every-keeps, link-keeps, monitor-keeps, unlink-keeps}
-use Rattle.rules.proofs.TiesAgree.{after-agrees, after-same, cancel-agrees, cancel-same, demonitor-agrees, demonitor-same, every-agrees, every-same, link-agrees, link-same, monitor-agrees, monitor-same, unlink-agrees, unlink-same}
+use Rattle.rules.proofs.Ends.Departs.{beside-depart, exit-agrees, exit-counts, exit-keeps, exit-same}
+use Rattle.rules.proofs.Reckoned.Firing.{some-then}
+use Rattle.rules.proofs.Lists.Notices.{some-those}
+use Rattle.rules.proofs.Frames.Wrote.{Beside, beside-of, beside-still, wrote-none, wrote-poke}
+use Rattle.rules.proofs.Frames.Actions.{wrote-post, wrote-ready, wrote-tie}
+use Rattle.rules.specs.Good.{Good}
+use Rattle.rules.proofs.Guards.{Passed, found-well, guarded-all, guarded-heard, guarded-numbers, guarded-yes, oneOf, why-found, why-refuses}
+use Rattle.rules.proofs.Kept.Messages.{notify-keeps, receive-keeps}
+use Rattle.rules.proofs.Reckoned.Messages.{notify-agrees, notify-same, receive-agrees, receive-same}
+use Rattle.rules.proofs.Reckoned.Pages.{Paged, fires-does, more-some, quietly, within-all, within-but, within-end, Within}
+use Rattle.rules.proofs.Kept.Running.{next-keeps, spawn-keeps, yield-keeps}
+use Rattle.rules.proofs.Reckoned.Running.{next-agrees, next-same, report-counts, shown-same, spawn-agrees, spawn-same, yield-agrees, yield-same}
+use Rattle.rules.proofs.Reckoned.Tests.{same-first}
+use Rattle.rules.proofs.Ends.Laws.{laws}
+use Rattle.rules.proofs.Ends.Steps.{passed-order, passed-people}
+use Rattle.rules.proofs.Kept.Ties.{after-keeps, cancel-keeps, demonitor-keeps, every-keeps, link-keeps, monitor-keeps, unlink-keeps}
+use Rattle.rules.proofs.Reckoned.Ties.{after-agrees, after-same, cancel-agrees, cancel-same, demonitor-agrees, demonitor-same, every-agrees, every-same}
+use Rattle.rules.proofs.Reckoned.Ties.{link-agrees, link-same, monitor-agrees, monitor-same, unlink-agrees, unlink-same}
 
 -- ---- the shapes
 -- zeros stand beside a refusal
@@ -95,221 +102,111 @@ unfolding receiveBare
 receive-works sender class tag wait a s =
     split (ltb (firstMatch s a sender class tag) (head s ARRIVED)) (λ q. rw q) (λ q. rw q (split (notAtAll wait) (λ p. rw p) (λ p. rw p)))
 
+-- a row of the table: the order of a call's tests and that its work answers one of its numbers, its counts, its refusals, and the laws of its work
+row : (o : Op) → ((k : Caps) (s : State) → (ordered 0 (entry o .tests k s) ≡ true)
+    × (oneOf (map found (entry o .works)) (number (say (entry o .shape) (entry o .work k s .ans))) ≡ true)) →
+    Counted o → Speaks o ⊎ Silent o → Keeps o → Agreed o → Tested o → Framed o → Paged o → Proved o
+row o h counts speaks keeps agrees same leaves page = record {
+  inOrder = λ k s. h k s .0;
+  works = λ k s. h k s .1;
+  keeps = keeps;
+  agrees = agrees;
+  counts = counts;
+  same = same;
+  speaks = speaks;
+  leaves = leaves;
+  page = page;
+}
+
 -- ---- THE TABLE
 pub proved : (o : Op) → Proved o
-unfolding released taken endTimers endLinks endMonitors departed gone cleared entered
-proved (spawn n) = record {
-  inOrder = λ k s. refl;
-  works = λ k s. refl;
-  keeps = spawn-keeps n;
-  agrees = spawn-agrees n;
-  counts = λ k s l g a p. refl;
-  same = spawn-same n;
-  speaks = inl (λ m. refl);
-  leaves = spawn-framed n;
-  page = record {
-    order = λ r l. within-end (within-all (l .mail .boxes));
-    boxes = λ m l. refl;
-    knows = λ id r l d e. more-some (λ a. eqb (a .id) id) (l .people .live) (record { id = r; priority = n }) e (ne-eqb r id (d n refl));
-    knew = λ id m l e. e;
-  };
-}
-proved next = record {
-  inOrder = λ k s. refl;
-  works = λ k s. split (ltb (firstHead s LEVELS) (head s QUEUED)) (λ q. rw q) (λ q. rw q);
-  keeps = next-keeps;
-  agrees = next-agrees;
-  counts = λ k s l g a p. refl;
-  same = next-same;
-  speaks = inl (λ m. refl);
-  leaves = framed next beside-next refl;
-  page = quietly next (λ r l. (refl, refl, refl, refl));
-}
-proved yield = record {
-  inOrder = λ k s. refl;
-  works = λ k s. refl;
-  keeps = yield-keeps;
-  agrees = yield-agrees;
-  counts = λ k s l g a p. refl;
-  same = yield-same;
-  speaks = inl (λ m. refl);
-  leaves = framed yield beside-yield refl;
-  page = quietly yield (λ r l. (refl, refl, refl, refl));
-}
-proved (notify to tag payload) = record {
-  inOrder = λ k s. refl;
-  works = λ k s. refl;
-  keeps = notify-keeps to tag payload;
-  agrees = notify-agrees to tag payload;
-  counts = λ k s l g a p. refl;
-  same = notify-same to tag payload;
-  speaks = inl (λ m. refl);
-  leaves = framed (notify to tag payload) (beside-notify to tag payload) refl;
-  page = record {
-    order = λ r l. within-all (l .mail .boxes ++ (message to (l .people .running) (Says.wrote tag payload) ∷ []));
-    boxes = λ n l. refl;
-    knows = λ id r l d e. e;
-    knew = λ id n l e. e;
-  };
-}
-proved (receive sender class tag wait) = record {
-  inOrder = λ k s. refl;
-  works = λ k s. receive-works sender class tag wait (runner s - 1) (letGo s (runner s - 1));
-  keeps = receive-keeps sender class tag wait;
-  agrees = receive-agrees sender class tag wait;
-  counts = λ k s l g a p. refl;
-  same = receive-same sender class tag wait;
-  speaks = inl (λ m. refl);
-  leaves = framed (receive sender class tag wait) (beside-receive sender class tag wait) refl;
-  page = record {
-    order = λ r l. within-end (within-but (wanted (l .people .running) sender class tag) (l .mail .boxes));
-    boxes = λ n l. split (eqb n 5) (λ q. rw q) (λ q. rw q);
-    knows = λ id r l d e. e;
-    knew = λ id n l e. split (eqb n 5) (λ q. rw q at e) (λ q. rw q at e);
-  };
-}
-proved show = record {
-  inOrder = λ k s. refl;
-  works = λ k s. refl;
-  keeps = λ k s g p. g;
-  agrees = λ k s l g a p. a;
-  counts = λ k s l g a p. refl;
-  same = shown-same;
-  speaks = inr show-silent;
-  leaves = framed show (λ k s. beside-still [] s) refl;
-  page = quietly show (λ r l. (refl, refl, refl, refl));
-}
-proved shown = record {
-  inOrder = λ k s. refl;
-  works = λ k s. refl;
-  keeps = λ k s g p. g;
-  agrees = λ k s l g a p. a;
-  counts = λ k s l g a p. refl;
-  same = shown-same;
-  speaks = inl (λ m. refl);
-  leaves = framed shown (λ k s. beside-still [] s) refl;
-  page = quietly shown (λ r l. (refl, refl, refl, refl));
-}
-proved (after n) = record {
-  inOrder = λ k s. refl;
-  works = λ k s. refl;
-  keeps = after-keeps n;
-  agrees = after-agrees n;
-  counts = λ k s l g a p. refl;
-  same = after-same n;
-  speaks = inl (λ m. refl);
-  leaves = framed (after n) (beside-arm n 0 (ltb LONGEST n)) refl;
-  page = quietly (after n) (λ r l. (refl, refl, refl, refl));
-}
-proved (every n) = record {
-  inOrder = λ k s. refl;
-  works = λ k s. refl;
-  keeps = every-keeps n;
-  agrees = every-agrees n;
-  counts = λ k s l g a p. refl;
-  same = every-same n;
-  speaks = inl (λ m. refl);
-  leaves = framed (every n) (beside-arm n n (eqb n 0 || ltb LONGEST n)) refl;
-  page = quietly (every n) (λ r l. (refl, refl, refl, refl));
-}
-proved (cancel id) = record {
-  inOrder = λ k s. refl;
-  works = λ k s. refl;
-  keeps = cancel-keeps id;
-  agrees = cancel-agrees id;
-  counts = λ k s l g a p. refl;
-  same = cancel-same id;
-  speaks = inl (λ m. refl);
-  leaves = framed (cancel id) (beside-cancel id) refl;
-  page = quietly (cancel id) (λ r l. (refl, refl, refl, refl));
-}
-proved (link id) = record {
-  inOrder = λ k s. refl;
-  works = λ k s. refl;
-  keeps = link-keeps id;
-  agrees = link-agrees id;
-  counts = λ k s l g a p. refl;
-  same = link-same id;
-  speaks = inl (λ m. refl);
-  leaves = framed (link id) (beside-link id) refl;
-  page = quietly (link id) (λ r l. split (linked l (l .people .running) id) (λ q. rw q (refl, refl, refl, refl)) (λ q. rw q (refl, refl, refl, refl)));
-}
-proved (unlink id) = record {
-  inOrder = λ k s. refl;
-  works = λ k s. refl;
-  keeps = unlink-keeps id;
-  agrees = unlink-agrees id;
-  counts = λ k s l g a p. refl;
-  same = unlink-same id;
-  speaks = inl (λ m. refl);
-  leaves = framed (unlink id) (beside-unlink id) refl;
-  page = quietly (unlink id) (λ r l. (refl, refl, refl, refl));
-}
-proved (monitor id) = record {
-  inOrder = λ k s. refl;
-  works = λ k s. refl;
-  keeps = monitor-keeps id;
-  agrees = monitor-agrees id;
-  counts = λ k s l g a p. refl;
-  same = monitor-same id;
-  speaks = inl (λ m. refl);
-  leaves = framed (monitor id) (beside-monitor id) refl;
-  page = quietly (monitor id) (λ r l. (refl, refl, refl, refl));
-}
-proved (demonitor id) = record {
-  inOrder = λ k s. refl;
-  works = λ k s. refl;
-  keeps = demonitor-keeps id;
-  agrees = demonitor-agrees id;
-  counts = λ k s l g a p. refl;
-  same = demonitor-same id;
-  speaks = inl (λ m. refl);
-  leaves = framed (demonitor id) (beside-demonitor id) refl;
-  page = quietly (demonitor id) (λ r l. (refl, refl, refl, refl));
-}
-proved (exit reason) = record {
-  inOrder = λ k s. refl;
-  works = λ k s. refl;
-  keeps = exit-keeps reason;
-  agrees = exit-agrees reason;
-  counts = exit-counts reason;
-  same = exit-same reason;
-  speaks = inl (λ m. refl);
-  leaves = framed (exit reason) (beside-exit reason) refl;
-  page = record {
-    order = λ r l. within-more (take (sendings (l .people .running) reason l) (notices l (l .people .running) reason)) (within-those (λ m. not (eqb (m .to) (l .people .running))) (l .mail .boxes));
-    boxes = λ n l. refl;
-    knows = λ id r l d e. those-some (λ a. eqb (a .id) id) (λ a. not (eqb (a .id) (l .people .running))) (l .people .live) e;
-    knew = λ id n l e. e;
-  };
-}
-proved (advance micros) = record {
-  inOrder = λ k s. refl;
-  works = λ k s. refl;
-  keeps = advance-keeps micros;
-  agrees = advance-agrees micros;
-  counts = advance-counts micros;
-  same = advance-same micros;
-  speaks = inl (λ m. refl);
-  leaves = framed (advance micros) (beside-advance micros) refl;
-  page = record {
-    order = λ r l. subst (λ (m : List Message). Within m (l .mail .boxes ++ ticks (firings (later micros l)) (later micros l))) (sym (fires-boxes (firings (later micros l)) (later micros l))) (within-all (l .mail .boxes ++ ticks (firings (later micros l)) (later micros l)));
-    boxes = λ n l. refl;
-    knows = λ id r l d e. rw (fires-people (firings (later micros l)) (later micros l)) at e;
-    knew = λ id n l e. e;
-  };
-}
-proved report = record {
-  inOrder = λ k s. refl;
-  works = λ k s. refl;
-  keeps = λ k s g p. g;
-  agrees = λ k s l g a p. a;
-  counts = report-counts;
-  same = λ k s l g a. record {};
-  speaks = inl (λ m. refl);
-  leaves = framed report (λ k s. beside-still [] s) refl;
-  page = quietly report (λ r l. (refl, refl, refl, refl));
-}
+unfolding released pickedUp endTimers endLinks endMonitors departed gone cleared entered
+proved (spawn n) =
+    row (spawn n) (λ k s. (refl, refl)) (λ k s l g a p. refl) (inl (λ m. refl)) (spawn-keeps n) (spawn-agrees n) (spawn-same n) (spawn-framed n) (record {
+      order = λ r l. within-end (within-all (l .mail .boxes));
+      boxes = λ m l. refl;
+      knows = λ id r l d e. more-some (λ a. eqb (a .id) id) (l .people .live) (record { id = r; priority = n }) e (ne-eqb r id (d n refl));
+      knew = λ id m l e. e;
+    })
+proved next =
+    row next (λ k s. (refl, split (ltb (firstHead s LEVELS) (head s QUEUED)) (λ q. rw q) (λ q. rw q))) (λ k s l g a p. refl) (inl (λ m. refl))
+    next-keeps next-agrees next-same (framed next beside-next refl) (quietly next (λ r l. (refl, refl, refl, refl)))
+proved yield =
+    row yield (λ k s. (refl, refl)) (λ k s l g a p. refl) (inl (λ m. refl))
+    yield-keeps yield-agrees yield-same (framed yield (λ k s. beside-of (wrote-ready (wrote-poke (wrote-none s) RUNNING 0 0) _ 0)) refl)
+    (quietly yield (λ r l. (refl, refl, refl, refl)))
+proved (notify to tag payload) =
+    row (notify to tag payload) (λ k s. (refl, refl)) (λ k s l g a p. refl) (inl (λ m. refl))
+    (notify-keeps to tag payload) (notify-agrees to tag payload) (notify-same to tag payload)
+    (framed (notify to tag payload) (λ k s. beside-of (wrote-post k s _ _ _ payload)) refl) (record {
+      order = λ r l. within-all (l .mail .boxes ++ (message to (l .people .running) (Says.wrote tag payload) ∷ []));
+      boxes = λ n l. refl;
+      knows = λ id r l d e. e;
+      knew = λ id n l e. e;
+    })
+proved (receive sender class tag wait) =
+    row (receive sender class tag wait) (λ k s. (refl, receive-works sender class tag wait (runner s - 1) (letGo s (runner s - 1)))) (λ k s l g a p. refl)
+    (inl (λ m. refl))
+    (receive-keeps sender class tag wait) (receive-agrees sender class tag wait) (receive-same sender class tag wait)
+    (framed (receive sender class tag wait) (beside-receive sender class tag wait) refl) (record {
+      order = λ r l. within-end (within-but (wanted (l .people .running) sender class tag) (l .mail .boxes));
+      boxes = λ n l. split (eqb n 5) (λ q. rw q) (λ q. rw q);
+      knows = λ id r l d e. e;
+      knew = λ id n l e. split (eqb n 5) (λ q. rw q at e) (λ q. rw q at e);
+    })
+proved show =
+    row show (λ k s. (refl, refl)) (λ k s l g a p. refl) (inr show-silent) (λ k s g p. g) (λ k s l g a p. a) shown-same
+    (framed show (λ k s. beside-still [] s) refl) (quietly show (λ r l. (refl, refl, refl, refl)))
+proved shown =
+    row shown (λ k s. (refl, refl)) (λ k s l g a p. refl) (inl (λ m. refl)) (λ k s g p. g) (λ k s l g a p. a) shown-same
+    (framed shown (λ k s. beside-still [] s) refl) (quietly shown (λ r l. (refl, refl, refl, refl)))
+proved (after n) =
+    row (after n) (λ k s. (refl, refl)) (λ k s l g a p. refl) (inl (λ m. refl)) (after-keeps n) (after-agrees n) (after-same n)
+    (framed (after n) (beside-arm n 0 (ltb LONGEST n)) refl) (quietly (after n) (λ r l. (refl, refl, refl, refl)))
+proved (every n) =
+    row (every n) (λ k s. (refl, refl)) (λ k s l g a p. refl) (inl (λ m. refl)) (every-keeps n) (every-agrees n) (every-same n)
+    (framed (every n) (beside-arm n n (eqb n 0 || ltb LONGEST n)) refl) (quietly (every n) (λ r l. (refl, refl, refl, refl)))
+proved (cancel id) =
+    row (cancel id) (λ k s. (refl, refl)) (λ k s l g a p. refl) (inl (λ m. refl)) (cancel-keeps id) (cancel-agrees id) (cancel-same id)
+    (framed (cancel id) (λ k s. beside-of (use-ends timerPool s _ .wrote)) refl) (quietly (cancel id) (λ r l. (refl, refl, refl, refl)))
+proved (link id) =
+    row (link id) (λ k s. (refl, refl)) (λ k s l g a p. refl) (inl (λ m. refl)) (link-keeps id) (link-agrees id) (link-same id)
+    (framed (link id) (beside-link id) refl) (quietly (link id)
+    (λ r l. split (linked l (l .people .running) id) (λ q. rw q (refl, refl, refl, refl)) (λ q. rw q (refl, refl, refl, refl))))
+proved (unlink id) =
+    row (unlink id) (λ k s. (refl, refl)) (λ k s l g a p. refl) (inl (λ m. refl)) (unlink-keeps id) (unlink-agrees id) (unlink-same id)
+    (framed (unlink id) (λ k s. beside-of (wrote-tie (wrote-none s) _ 0 0)) refl) (quietly (unlink id) (λ r l. (refl, refl, refl, refl)))
+proved (monitor id) =
+    row (monitor id) (λ k s. (refl, refl)) (λ k s l g a p. refl) (inl (λ m. refl)) (monitor-keeps id) (monitor-agrees id) (monitor-same id)
+    (framed (monitor id) (λ k s. beside-of (use-begins monitorPool s _ _ _ refl refl .wrote)) refl) (quietly (monitor id) (λ r l. (refl, refl, refl, refl)))
+proved (demonitor id) =
+    row (demonitor id) (λ k s. (refl, refl)) (λ k s l g a p. refl) (inl (λ m. refl)) (demonitor-keeps id) (demonitor-agrees id) (demonitor-same id)
+    (framed (demonitor id) (λ k s. beside-of (use-ends monitorPool s _ .wrote)) refl) (quietly (demonitor id) (λ r l. (refl, refl, refl, refl)))
+proved (exit reason) =
+    row (exit reason) (λ k s. (refl, refl)) (exit-counts reason) (inl (λ m. refl)) (exit-keeps reason) (exit-agrees reason) (exit-same reason)
+    (framed (exit reason) (λ k s. beside-depart k (runner s - 1) reason s) refl) (record {
+      order = λ r l. passed-order laws (l .people .running) reason l;
+      boxes = λ n l. refl;
+      knows = λ id r l d e.
+          let others : Actor → Bool = λ a. not (eqb (a .id) (l .people .running)) in
+          let there : some (λ a. eqb (a .id) id) (those others (l .people .live)) ≡ true =
+          subst (λ (x : People). some (λ a. eqb (a .id) id) (those others (x .live)) ≡ true) (passed-people laws (l .people .running) reason l) e in
+          some-then (λ a. others a && eqb (a .id) id) (λ a. eqb (a .id) id) (l .people .live) (λ a. and-right (others a) (eqb (a .id) id))
+          (sym (some-those _ others _) ∙ there);
+      knew = λ id n l e. e;
+    })
+proved (advance micros) =
+    row (advance micros) (λ k s. (refl, refl)) (advance-counts micros) (inl (λ m. refl)) (advance-keeps micros) (advance-agrees micros) (advance-same micros)
+    (framed (advance micros) (beside-advance micros) refl) (record {
+      order = λ r l. subst (λ (m : List Message). Within m (l .mail .boxes ++ ticks (firings (later micros l)) (later micros l)))
+          (sym (fires-does (firings (later micros l)) (later micros l) .0)) (within-all (l .mail .boxes ++ ticks (firings (later micros l)) (later micros l)));
+      boxes = λ n l. refl;
+      knows = λ id r l d e. rw (fires-does (firings (later micros l)) (later micros l) .1) at e;
+      knew = λ id n l e. e;
+    })
+proved report =
+    row report (λ k s. (refl, refl)) report-counts (inl (λ m. refl)) (λ k s g p. g) (λ k s l g a p. a) (λ k s l g a. record {})
+    (framed report (λ k s. beside-still [] s) refl) (quietly report (λ r l. (refl, refl, refl, refl)))
 
 -- ---- WHAT IS SO OF EVERY CALL
 -- no work is heard as a refusal
@@ -373,28 +270,26 @@ module _ (o : Op) where
       (λ y e. (refl, refusal-zeroed (entry o .shape) (code y)))
       (λ p e. true-false (refuses (number (say (entry o .shape) (entry o .work k s .ans)))) e (work-done k s))
 
-  -- no call answers 7
+  -- no rule answers 7: a host call does so where the buffers are not sound
   pub step-seven : (k : Caps) (s : State) → number (step o k s .ans) ≡ 7 → ⊥
   step-seven k s =
       step-all k s (λ x. number (say (entry o .shape) (x .ans)) ≡ 7 → ⊥)
-      (λ y e. ⊎-elim (λ h. eqb-false (code y) 7 (why-refuses y .1) (sym (h (code y)) ∙ e)) (λ h. zero-seven (sym (h .mute (refusal (entry o .shape) (code y)) .1) ∙ e)) (proved o .speaks))
+      (λ y e. ⊎-elim (λ h. eqb-false (code y) 7 (why-refuses y .1) (sym (h (code y)) ∙ e))
+      (λ h. omega (arith, sym (h .mute (refusal (entry o .shape) (code y)) .1) ∙ e)) (proved o .speaks))
       (λ p e. true-false (refuses (number (say (entry o .shape) (entry o .work k s .ans)))) (ap refuses e) (work-done k s))
-    where
-      zero-seven : _≡_ {A = ℕ} 0 7 → ⊥
-      zero-seven e = omega arith
 
   module _ (k : Caps) (s : State) (l : Ledger) (g : Good k s) (a : Agrees k l s) where
     -- the first of its tests that says yes is the reckoning's
-    same-verdict : firstYes (entry o .tests k s) ≡ verdict l (op o)
+    same-verdict : firstYes (entry o .tests k s) ≡ refusalDue l (op o)
     same-verdict = same-first (entry o .tests k s) (page o .tests l) (proved o .same k s l g a)
 
     -- THE LAW: where a refusal is due by the reckoning, the answer is that refusal, and nothing changed
-    pub step-verdict : (y : Why) → verdict l (op o) ≡ code y → step o k s ≡ out (say (entry o .shape) (refusal (entry o .shape) (code y))) s
+    pub step-verdict : (y : Why) → refusalDue l (op o) ≡ code y → step o k s ≡ out (say (entry o .shape) (refusal (entry o .shape) (code y))) s
     unfolding ruled
     step-verdict y e = ap (said (say (entry o .shape))) (guarded-yes (refusal (entry o .shape)) s (entry o .work k s) y (entry o .tests k s) (same-verdict ∙ e))
 
     -- and the number is heard nowhere else
-    spoken : Speaks o → (y : Why) → (number (step o k s .ans) ≡ code y) ↔ (verdict l (op o) ≡ code y)
+    spoken : Speaks o → (y : Why) → (number (step o k s .ans) ≡ code y) ↔ (refusalDue l (op o) ≡ code y)
     unfolding ruled
     spoken h y = (
       λ e. sym same-verdict ∙ guarded-heard (refusal (entry o .shape)) s (entry o .work k s) (λ r. number (say (entry o .shape) r)) (code y) (entry o .tests k s) h
@@ -403,14 +298,12 @@ module _ (o : Op) where
     )
 
     -- THE LAW: an answer that has a number has that of a refusal exactly where it is due by the reckoning
-    pub step-refusal : (y : Why) → numbered (step o k s .ans) ≡ true → (number (step o k s .ans) ≡ code y) ↔ (verdict l (op o) ≡ code y)
+    pub step-refusal : (y : Why) → numbered (step o k s .ans) ≡ true → (number (step o k s .ans) ≡ code y) ↔ (refusalDue l (op o) ≡ code y)
     step-refusal y n = ⊎-elim (λ h. spoken h y) (λ h. true-false (numbered (step o k s .ans)) n (h .mute (ruled (entry o) k s .ans) .0)) (proved o .speaks)
 
     -- "no room" exactly when no earlier refusal applies and a pool has less left by the reckoning than the call needs
     pub step-two : (number (step o k s .ans) ≡ 2) ↔ (short l (op o) ≡ true)
     step-two =
-        ⊎-elim (λ h. (λ e. eq-eqb (verdict l (op o)) 2 (spoken h full .0 e), λ e. spoken h full .1 (eqb-true (verdict l (op o)) 2 e)))
-        (λ h. (λ e. absurd (zero-two (sym (h .mute (ruled (entry o) k s .ans) .1) ∙ e)), λ e. true-false (short l (op o)) e (h .roomy l))) (proved o .speaks)
-      where
-        zero-two : _≡_ {A = ℕ} 0 2 → ⊥
-        zero-two e = omega arith
+        ⊎-elim (λ h. (λ e. eq-eqb (refusalDue l (op o)) 2 (spoken h full .0 e), λ e. spoken h full .1 (eqb-true (refusalDue l (op o)) 2 e)))
+        (λ h. (λ e. absurd (omega (arith, sym (h .mute (ruled (entry o) k s .ans) .1) ∙ e)), λ e. true-false (short l (op o)) e (h .roomy l)))
+        (proved o .speaks)

@@ -1,4 +1,4 @@
--- What the calls do to the tables, action by action. Each is a change of a few columns. Assumes nothing.
+-- What the calls do to the tables, action by action. Each is a change of a few columns.
 use Prim.Native.Nat.{ℕ, zero, suc, _-_}
 use mathlib.Core.Bool.{Bool, cond, not, _&&_, _||_}
 use mathlib.Core.List.{List}
@@ -46,8 +46,8 @@ hasRoom k s = ltb (mailFor k s) (k .mails) && ltb (dataFor k s) (k .datas)
 -- ---- a message
 -- data entry d is taken, and holds a message
 unfoldable pub fill : State → ℕ → ℕ → ℕ → List ℕ → State
-fill s d sender head payload =
-    write (write (poke (poke (takeBit s DATA-FREE d) SENDER d sender) LENGTH d (length payload)) d 0 (le HEADER-BYTES head)) d HEADER-BYTES payload
+fill s d sender heading payload =
+    write (write (poke (poke (takeBit s DATA-FREE d) SENDER d sender) LENGTH d (length payload)) d 0 (le HEADER-BYTES heading)) d HEADER-BYTES payload
 
 -- data entry d is freed, and all zero
 unfoldable pub unfill : State → ℕ → State
@@ -65,17 +65,17 @@ delist s j =
 
 -- the filter of slot a, which waits, matches
 abbrev pub hears : State → ℕ → ℕ → ℕ → Bool
-hears s a sender head =
-    eqb (at s STATE a) WAITS && fits (at s WANT-SENDER a) (at s WANT-CLASS a) (at s WANT-TAG a) sender (classOf head) (tagOf head)
+hears s a sender heading =
+    eqb (at s STATE a) WAITS && fits (at s WANT-SENDER a) (at s WANT-CLASS a) (at s WANT-TAG a) sender (classOf heading) (tagOf heading)
 
 -- "A waiting actor becomes runnable, with reason 1, when a message that its filter matches arrives"
 unfoldable pub stir : State → ℕ → ℕ → ℕ → State
-stir s a sender head = cond (hears s a sender head) (wake s a MESSAGE) s
+stir s a sender heading = cond (hears s a sender heading) (wake s a MESSAGE) s
 
 -- a message to slot a, for which there is room
 unfoldable pub post : Caps → State → ℕ → ℕ → ℕ → List ℕ → State
-post k s a sender head payload =
-    stir (enlist (fill s (dataFor k s) sender head payload) (mailFor k s) a (dataFor k s)) a sender head
+post k s a sender heading payload =
+    stir (enlist (fill s (dataFor k s) sender heading payload) (mailFor k s) a (dataFor k s)) a sender heading
 
 -- the data entry in the hand of slot a is released
 unfoldable pub letGo : State → ℕ → State

@@ -1,4 +1,4 @@
--- What a host call promises of its answer and of both buffers, for any rule; and start. Assumes nothing.
+-- What a host call promises of its answer and of both buffers, for any rule; and start.
 use Prim.Native.Nat.{ℕ, _+_, _-_, _*_, _^_, min}
 use mathlib.Core.Path.{_≡_}
 use mathlib.Core.Bool.{Bool, cond, _&&_}
@@ -10,8 +10,8 @@ use Rattle.ledger.specs.Call.Answer.{plain}
 use Rattle.tables.specs.declared.Caps.{Caps}
 use Rattle.tables.specs.Columns.{ACTORS, DATA-FREE, DATAS, LINKS, MAIL-FREE, MAILS, MONITORS, PAST, PAYLOAD, REST, TIMERS}
 use Rattle.pools.specs.Bits.{WORD-BITS}
-use Rattle.tables.specs.State.{State, capsOf, joinP, joinW, needed, neededP, poke, size, view, Left}
-use Rattle.rules.specs.Rule.{test}
+use Rattle.tables.specs.State.{State, capsOf, joinP, joinW, needed, neededP, poke, size, view, Does, Reads}
+use Rattle.rules.specs.Rule.{Rule, test}
 use Rattle.rules.specs.Sound.{rangeRule, soundRule, viewOf}
 use Rattle.rules.specs.Calls.{Ans, Entry, Out, refusal, ruled, shownEntry}
 
@@ -24,7 +24,11 @@ pub record Called {A : Type 0} (seven : A) (rule : Caps → State → Out A) (w 
 
 -- what a function inside a call does: on buffers that hold a state, the rule's answer, and the rule's state left
 abbrev pub Gives : {A : Type 0} → (Caps → State → Out A) → Caps → (w p : List ℕ) → A → (w′ p′ : List ℕ) → Type 0
-Gives rule k w p r w′ p′ = (r ≡ rule k (view k w p) .ans) × Left k (rule k (view k w p) .state) w′ p′
+Gives rule k w p r w′ p′ = Does k (λ s. rule k s .ans) (λ s. rule k s .state) w p r w′ p′
+
+-- what a part of the soundness test answers: whether the state that is held keeps a rule
+abbrev pub Tests : Caps → (State → Rule) → (w p : List ℕ) → Bool → Type 0
+Tests k rule w p r = Reads k (λ s. test (rule s)) w p r
 
 -- ---- where the shown part lies
 -- the place so many bytes past another: the same block, so much further on

@@ -1,8 +1,10 @@
 -- Definitions that the contracts cite.
 pub mod Actions
+pub mod Aged
 pub mod Agrees
 pub mod Calls
 pub mod Examples
+pub mod Good
 pub mod Host
 pub mod Rule
 pub mod Run

@@ -1,4 +1,4 @@
--- A rule that a machine can test: `test` is its test, `Holds` what it says. proofs/RuleLaws.antt joins the two, once for every rule. Assumes nothing.
+-- A rule that a machine can test: `test` is its test, `Holds` what it says. proofs/Kept/Rules.antt joins the two, once for every rule.
 use Prim.Native.Nat.{ℕ, zero, suc, _≤_, _<_}
 use mathlib.Core.Path.{_≡_}
 use mathlib.Core.Bool.{Bool, true, not, _&&_, _||_}

@@ -1,7 +1,7 @@
--- What a sound runtime is: the paragraph "Sound means" of document 01, a rule for each of its clauses, with the clause above it. Assumes nothing.
+-- What a sound runtime is: the paragraph "Sound means" of document 01, a rule for each of its clauses, with the clause above it.
 use Prim.Native.Nat.{ℕ, suc, _+_, _-_, _*_}
-use mathlib.Core.Bool.{not}
-use mathlib.Core.List.{List}
+use mathlib.Core.Bool.{not, true}
+use mathlib.Core.List.{List, [], _∷_}
 use mir.Val.{boolByte}
 use lib.ListN.{length, getD, take}
 use lib.Dec.{eqb}
@@ -10,11 +10,12 @@ use Rattle.pools.specs.Bits.{free}
 use Rattle.pools.specs.Slot.{ageOf, slotOf}
 use Rattle.records.specs.Header.{classOf, markOf, tagOf}
 use Rattle.tables.specs.declared.Caps.{Caps}
-use Rattle.tables.specs.Columns.{ACTORS, AGE, ARRIVAL, ARRIVED, CLOCK, DATA-FREE, DATAS, DEADLINE, DUE, HAND, INTERVAL, LENGTH, LINK-ONE, LINK-TWO, LINKS, MAIL-DATA, MAIL-FREE, MAIL-OWNER, MAILS, MONITOR-AGE, MONITORS, PAYLOAD, PRIORITY, QUEUE, QUEUED, REASON, REST, SENDER, SPARE, STATE, TIMER-AGE, TIMER-OWNER, TIMERS, WANT-CLASS, WANT-SENDER, WANT-TAG, WATCHED, WATCHER}
+use Rattle.tables.specs.Columns.{ACTORS, AGE, ARRIVAL, ARRIVED, CLOCK, DATA-FREE, DATAS, DEADLINE, DUE, HAND, INTERVAL, LENGTH, LINK-ONE, LINK-TWO, LINKS, MAIL-DATA, MAIL-FREE, MAIL-OWNER, MAILS, MONITORS, PAYLOAD, PRIORITY, QUEUE, QUEUED, REASON, REST, SENDER, SPARE, STATE, TIMER-OWNER, TIMERS, WANT-CLASS, WANT-SENDER, WANT-TAG, WATCHED, WATCHER}
 use Rattle.tables.specs.Sizes.{COLUMN-BITS, SPARES}
 use Rattle.tables.specs.Limits.{ACTOR-FACTOR, ANY-CLASS, ANY-SENDER, ANY-TAG, CLOCK-END, DEADLINE-END, DUE-END, ENTRY-BYTES, HEADER-BYTES, LAST-LEVEL, LONGEST, MOST-ACTORS, MOST-DATAS, MOST-LINKS, MOST-MAILS, MOST-MONITORS, MOST-TIMERS, OLDEST, PAYLOAD-MOST}
 use Rattle.tables.specs.State.{State, at, head, view, capsOf, size, neededP, Room}
 use Rattle.rules.specs.Rule.{Rule, is, le, lt, eq, differ, both, imp, each, Holds}
+use Rattle.rules.specs.Aged.{Aged, monitorPool, timerPool}
 use Rattle.rules.specs.Terms.{FREE, RUNNABLE, RUNS, TIMEOUT, WAITS, alive, awaits, header, joins, runner}
 
 -- ---- "capacities .. in range"
@@ -53,8 +54,8 @@ actorRule k s a =
     (both (both (le (at s AGE a) OLDEST) (imp (eq (at s AGE a) 0) (eq (at s STATE a) FREE))) (le (at s HAND a) (k .datas)))
 
 -- "unused words are 0; free entries (ages apart) .. are zero": a reason while it is runnable, a filter and a deadline while it waits
-abbrev pub idleRule : State → ℕ → Rule
-idleRule s a =
+abbrev pub unusedRule : State → ℕ → Rule
+unusedRule s a =
     both (imp (eq (at s STATE a) FREE) (both (eq (at s PRIORITY a) 0) (eq (at s HAND a) 0)))
     (both (imp (differ (at s STATE a) RUNNABLE) (eq (at s REASON a) 0))
     (imp (differ (at s STATE a) WAITS)
@@ -108,10 +109,18 @@ filterRule s e =
     (is (not (awaits s (at s MAIL-OWNER e - 1) (at s MAIL-DATA e - 1))))
 
 -- ---- data entries
--- "each data entry free, belonging to one queued message, or in one live actor's hand"
+-- their owners: the columns of which each word names a data entry, one up, or none: of the queued messages, and of the actors' hands
+abbrev pub OWNERS : List ℕ
+OWNERS = MAIL-DATA ∷ HAND ∷ []
+
+-- how often the columns of a list name data entry d
+abbrev pub held : List ℕ → State → ℕ → ℕ
+held [] s d = 0
+held (c ∷ cs) s d = occurs (suc d) (s c) + held cs s d
+
+-- "each data entry free, belonging to one queued message, or in one live actor's hand": its owners name one that is not free once, and a free one never
 abbrev pub heldRule : State → ℕ → Rule
-heldRule s d =
-    eq (occurs (suc d) (s MAIL-DATA) + occurs (suc d) (s HAND)) (boolByte (not (free (s DATA-FREE) d)))
+heldRule s d = eq (held OWNERS s d) (boolByte (not (free (s DATA-FREE) d)))
 
 -- "free entries (ages apart) and bytes past a payload are zero"
 unfoldable pub zeros : List ℕ → ℕ → ℕ → Rule
@@ -162,30 +171,42 @@ unfoldable pub pairRule : State → ℕ → Rule
 pairRule s e =
     imp (differ (at s LINK-ONE e) 0) (each e (λ d. is (not (joins (s LINK-ONE) (s LINK-TWO) (at s LINK-ONE e) (at s LINK-TWO e) d))))
 
--- ---- ages of timers and monitors: "ages (0 only if free)"; a word that is not 0 is in use
+-- ---- slots with ages: those of timers and monitors
+-- "ages (0 only if free)"; a word that is not 0 is in use
 abbrev pub ageRule : ℕ → ℕ → Rule
 ageRule word age = both (le age OLDEST) (imp (differ word 0) (le 1 age))
 
+-- "free entries (ages apart) .. are zero": these columns of slot i are
+abbrev pub zeroRule : State → ℕ → List ℕ → Rule
+zeroRule s i [] = is true
+zeroRule s i (c ∷ []) = eq (at s c i) 0
+zeroRule s i (c ∷ d ∷ cs) = both (eq (at s c i) 0) (zeroRule s i (d ∷ cs))
+
+-- slot i has an age in range, and is free, or in use as is asked of one in use
+abbrev pub agedRule : Aged → (State → ℕ → Rule) → State → ℕ → Rule
+agedRule P used s i =
+    both (ageRule (at s (P .word) i) (at s (P .age) i))
+    (both (imp (eq (at s (P .word) i) 0) (zeroRule s i (P .rest))) (imp (differ (at s (P .word) i) 0) (used s i)))
+
 -- "monitors likewise, pairs may repeat"
+abbrev pub watchesRule : State → ℕ → Rule
+watchesRule s i = endsRule (s STATE) (at s WATCHER i) (at s WATCHED i)
+
 abbrev pub monitorRule : State → ℕ → Rule
-monitorRule s i =
-    both (ageRule (at s WATCHER i) (at s MONITOR-AGE i))
-    (both (imp (eq (at s WATCHER i) 0) (eq (at s WATCHED i) 0))
-    (imp (differ (at s WATCHER i) 0) (endsRule (s STATE) (at s WATCHER i) (at s WATCHED i))))
+monitorRule = agedRule monitorPool watchesRule
 
 -- "timers have live owners; due times at most 2^62 + 2^32"; "intervals .. in range" (0 is a one-shot's)
+abbrev pub armedRule : State → ℕ → Rule
+armedRule s i = both (is (alive (s STATE) (at s TIMER-OWNER i - 1))) (both (le (at s DUE i) DUE-END) (le (at s INTERVAL i) LONGEST))
+
 abbrev pub timerRule : State → ℕ → Rule
-timerRule s i =
-    both (ageRule (at s TIMER-OWNER i) (at s TIMER-AGE i))
-    (both (imp (eq (at s TIMER-OWNER i) 0) (both (eq (at s DUE i) 0) (eq (at s INTERVAL i) 0)))
-    (imp (differ (at s TIMER-OWNER i) 0)
-    (both (is (alive (s STATE) (at s TIMER-OWNER i - 1))) (both (le (at s DUE i) DUE-END) (le (at s INTERVAL i) LONGEST)))))
+timerRule = agedRule timerPool armedRule
 
 -- ---- all of them
 -- what is asked of slot a, and of word a of the queue
 abbrev pub slotRule : Caps → State → ℕ → Rule
 slotRule k s a =
-    both (both (actorRule k s a) (idleRule s a)) (both (waitRule s a) (both (runRule s a) (queueRule k s a)))
+    both (both (actorRule k s a) (unusedRule s a)) (both (waitRule s a) (both (runRule s a) (queueRule k s a)))
 
 -- what is asked of mailbox entry e, and of word e of the arrivals
 abbrev pub boxRule : Caps → State → ℕ → Rule
@@ -201,13 +222,13 @@ plainRules k s =
     (both (each (k .monitors) (λ i. monitorRule s i)) (each (k .timers) (λ i. timerRule s i))))))
 
 -- the rules that count over a whole column, or follow what one names
-unfoldable pub lateRules : Caps → State → Rule
-lateRules k s =
+unfoldable pub acrossRules : Caps → State → Rule
+acrossRules k s =
     both (both (each (k .actors) (λ a. onceRule s a)) (each (k .mails) (λ e. arrivedRule s e)))
     (both (each (k .datas) (λ d. heldRule s d)) (both (each (k .links) (λ e. pairRule s e)) (each (k .mails) (λ e. filterRule s e))))
 
 unfoldable pub soundAt : Caps → State → Rule
-soundAt k s = both (fitRule k s) (both (plainRules k s) (lateRules k s))
+soundAt k s = both (fitRule k s) (both (plainRules k s) (acrossRules k s))
 
 -- the state that two buffers hold, by the capacities that the table's head states
 abbrev pub viewOf : List ℕ → List ℕ → State

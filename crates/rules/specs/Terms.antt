@@ -1,15 +1,16 @@
--- The words of document 01 in terms of the tables. Assumes nothing.
+-- The words of document 01 in terms of the tables.
 use Prim.Native.Nat.{ℕ, _-_, _*_}
 use mathlib.Core.Bool.{Bool, _&&_, _||_, not}
 use mathlib.Core.List.{List}
 use lib.ListN.{getD}
 use lib.Dec.{eqb, leb}
-use Rattle.pools.specs.Slot.{idOf, isLive, unused}
+use Rattle.pools.specs.Slot.{slotOf, unused}
 use Rattle.records.specs.Bytes.{field}
 use Rattle.records.specs.Header.{classOf, tagOf}
-use Rattle.tables.specs.Columns.{AGE, MONITOR-AGE, PAYLOAD, RUNNING, SENDER, STATE, TIMER-AGE, TIMER-OWNER, WANT-CLASS, WANT-SENDER, WANT-TAG, WATCHER}
-use Rattle.tables.specs.Limits.{ACTOR-FACTOR, ANY-CLASS, ANY-SENDER, ANY-TAG, ENTRY-BYTES, HEADER-BYTES, MONITOR-FACTOR, TIMER-FACTOR}
+use Rattle.tables.specs.Columns.{PAYLOAD, RUNNING, SENDER, WANT-CLASS, WANT-SENDER, WANT-TAG}
+use Rattle.tables.specs.Limits.{ANY-CLASS, ANY-SENDER, ANY-TAG, ENTRY-BYTES, HEADER-BYTES}
 use Rattle.tables.specs.State.{State, at, head}
+use Rattle.rules.specs.Aged.{Aged, actorPool, isUse, monitorPool, timerPool, useId}
 
 -- ---- an actor's states, as its word has them
 abbrev pub FREE : ℕ
@@ -38,23 +39,23 @@ alive states a = not (unused states a)
 
 -- "An actor or timer id is age × 64 + slot, a monitor id age × 128 + slot"
 abbrev pub actorId : State → ℕ → ℕ
-actorId s a = idOf ACTOR-FACTOR (at s AGE a) a
+actorId = useId actorPool
 
 abbrev pub timerId : State → ℕ → ℕ
-timerId s i = idOf TIMER-FACTOR (at s TIMER-AGE i) i
+timerId = useId timerPool
 
 abbrev pub monitorId : State → ℕ → ℕ
-monitorId s i = idOf MONITOR-FACTOR (at s MONITOR-AGE i) i
+monitorId = useId monitorPool
 
 -- id is that of a live actor, of a timer, of a monitor
 abbrev pub isActor : State → ℕ → Bool
-isActor s id = isLive ACTOR-FACTOR (s STATE) (s AGE) id
+isActor = isUse actorPool
 
 abbrev pub isTimer : State → ℕ → Bool
-isTimer s id = isLive TIMER-FACTOR (s TIMER-OWNER) (s TIMER-AGE) id
+isTimer = isUse timerPool
 
 abbrev pub isMonitor : State → ℕ → Bool
-isMonitor s id = isLive MONITOR-FACTOR (s WATCHER) (s MONITOR-AGE) id
+isMonitor = isUse monitorPool
 
 -- the slot of the running actor, one up; 0 where none runs
 abbrev pub runner : State → ℕ
@@ -62,6 +63,10 @@ runner s = head s RUNNING
 
 abbrev pub runnerId : State → ℕ
 runnerId s = actorId s (runner s - 1)
+
+-- "a monitor or timer only its owner, by its id": id is that of one of the running actor's own
+abbrev pub isOwn : Aged → State → ℕ → Bool
+isOwn P s id = isUse P s id && eqb (at s (P .word) (slotOf (P .factor) id)) (runner s)
 
 -- ---- messages
 -- "A data entry is a four-byte little-endian header and the payload"

@@ -1,4 +1,4 @@
--- A state without what lies past the needed words and bytes, and buffers that differ only there. Assumes nothing.
+-- A state without what lies past the needed words and bytes, and buffers that differ only there.
 use Prim.Native.Nat.{ℕ}
 use mathlib.Core.Path.{_≡_}
 use mathlib.Core.Bool.{Bool, cond, _||_}

@@ -1,4 +1,4 @@
--- Buffers whose needed words and bytes are 0 hold the state of zeros. Assumes nothing.
+-- Buffers whose needed words and bytes are 0 hold the state of zeros.
 use Prim.Native.Nat.{ℕ, zero, suc, _+_, _-_, _≤_, _<_}
 use native.Mathlib.Nat.{le-of-suc-le-suc}
 use native.Mathlib.Omega.{arith}

@@ -7,11 +7,11 @@ ghost use Rattle.ledger.specs.Call.Answer.{plain};
 ghost use Rattle.ledger.specs.Call.Call.{start};
 ghost use Rattle.tables.specs.Columns.{REST};
 ghost use Rattle.tables.specs.Sizes.{BIT-WORDS};
-ghost use Rattle.tables.specs.State.{view, Room, Left};
+ghost use Rattle.tables.specs.State.{Room, Makes};
 ghost use Rattle.rules.specs.Host.{ones, zeroed, stated, freed, fresh};
 ghost use Rattle.rules.specs.Story.{Meets};
 use pools::bits::WORD_BITS;
-use sound::fits;
+use sound::suffices;
 use tables::Caps;
 use tables::columns::ACTORS;
 use tables::columns::DATA_FREE;
@@ -41,7 +41,7 @@ fn zero_words(t: &mut [u64], n: usize)
 // Every needed word and byte is 0.
 fn clear(t: &mut [u64], p: &mut [u8], k: Caps)
     requires { ⌜ Room k (now t) (now p) ⌝ }
-    ensures { λ _. ⌜ Left k (zeroed k (view k (now (t .entry)) (now (p .entry)))) (now (t .exit)) (now (p .exit)) ⌝ }
+    ensures { λ _. ⌜ Makes k (zeroed k) (now (t .entry)) (now (p .entry)) (now (t .exit)) (now (p .exit)) ⌝ }
 {
     zero_words(t, words_needed(k));
     zero(p, 0, bytes_needed(k));
@@ -50,7 +50,7 @@ fn clear(t: &mut [u64], p: &mut [u8], k: Caps)
 // The head states the capacities.
 fn state_caps(t: &mut [u64], p: &[u8], k: Caps)
     requires { ⌜ Room k (now t) (now p) ⌝ }
-    ensures { λ _. ⌜ Left k (stated k (view k (now (t .entry)) (now (p .entry)))) (now (t .exit)) (now (p .entry)) ⌝ }
+    ensures { λ _. ⌜ Makes k (stated k) (now (t .entry)) (now (p .entry)) (now (t .exit)) (now (p .entry)) ⌝ }
 {
     put(t, p, k, ACTORS, 0, k.actors as u64);
     put(t, p, k, MAILS, 0, k.mails as u64);
@@ -79,7 +79,7 @@ fn ones_at(n: usize, j: usize) -> u64
 // All n entries of the free bits in column c are free.
 fn free_all(t: &mut [u64], p: &[u8], k: Caps, c: usize, n: usize)
     requires { ⌜ Room k (now t) (now p) × (c < REST) ⌝ }
-    ensures { λ _. ⌜ Left k (freed c n (view k (now (t .entry)) (now (p .entry)))) (now (t .exit)) (now (p .entry)) ⌝ }
+    ensures { λ _. ⌜ Makes k (freed c n) (now (t .entry)) (now (p .entry)) (now (t .exit)) (now (p .entry)) ⌝ }
 {
     put(t, p, k, c, 0, ones_at(n, 0));
     put(t, p, k, c, 1, ones_at(n, 1));
@@ -90,7 +90,7 @@ fn free_all(t: &mut [u64], p: &[u8], k: Caps, c: usize, n: usize)
 // A fresh runtime.
 pub fn begin(t: &mut [u64], p: &mut [u8], k: Caps)
     requires { ⌜ Room k (now t) (now p) ⌝ }
-    ensures { λ _. ⌜ Left k (fresh k (view k (now (t .entry)) (now (p .entry)))) (now (t .exit)) (now (p .exit)) ⌝ }
+    ensures { λ _. ⌜ Makes k (fresh k) (now (t .entry)) (now (p .entry)) (now (t .exit)) (now (p .exit)) ⌝ }
 {
     clear(t, p, k);
     state_caps(t, p, k);
@@ -120,7 +120,7 @@ pub extern "C" fn fg_start(
         monitors: monitors as usize,
         timers: timers as usize,
     };
-    if fits(t, p, k) {
+    if suffices(t, p, k) {
         begin(t, p, k);
         return 0;
     }

@@ -1,4 +1,4 @@
--- Header and length of a message, by ranges of the header's number. Assumes nothing.
+-- Header and length of a message, by ranges of the header's number.
 use Prim.Native.Nat.{ℕ, _≤_, _<_}
 use native.Mathlib.Omega.{arith}
 use mathlib.Core.Path.{_≡_, refl, sym}
@@ -10,7 +10,7 @@ use Rattle.records.specs.Header.{classOf}
 use Rattle.tables.specs.Limits.{ANY-TAG, PAYLOAD-MOST}
 use Rattle.rules.specs.Rule.{Rule, both, test, Holds}
 use Rattle.rules.specs.Sound.{headerRule, lengthRule}
-use Rattle.rules.proofs.RuleLaws.{same-test}
+use Rattle.rules.proofs.Kept.Rules.{same-test}
 
 or-first : (a b : Bool) → a ≡ true → a || b ≡ true
 or-first a b e = rw e
@@ -30,7 +30,7 @@ headedRule h n = both (headerRule h) (lengthRule (classOf h) n)
 pub notification-test : (h n : ℕ) → h < ANY-TAG → leb n PAYLOAD-MOST ≡ test (headedRule h n)
 notification-test h n l =
     sym (same-test (headedRule h n) (leb n PAYLOAD-MOST)
-    (λ r. le-leb n PAYLOAD-MOST (r .1 .0))
+    (λ (_, (most, _)). le-leb n PAYLOAD-MOST most)
     (λ t. ((λ z. (omega arith, omega arith), λ d. absurd (d (omega arith))), (leb-true n PAYLOAD-MOST t, (λ e. absurd (omega arith), λ e. absurd (omega arith))))))
 
 tick-holds : (h n : ℕ) → h ≡ 939524096 → n ≡ 8 → Holds (headedRule h n)
@@ -44,14 +44,14 @@ pub record-test : (h n : ℕ) → ANY-TAG ≤ h → eqb h 939524096 && eqb n 8 |
 record-test h n l =
     let x = eqb h 939524096 && eqb n 8 in let y = eqb h 1207959552 && eqb n 14 in
     sym (same-test (headedRule h n) (x || y)
-    (λ r. split (eqb (classOf h) 0)
-    (λ t. let z = eqb-true (classOf h) 0 t in absurd (omega (arith, r .0 .0 z .0, r .0 .0 z .1)))
-    (λ t. let q = r .0 .1 (eqb-false (classOf h) 0 t) in
+    (λ ((plain, notice), (_, (tick, exit))). split (eqb (classOf h) 0)
+    (λ t. let z = eqb-true (classOf h) 0 t in absurd (omega (arith, plain z .0, plain z .1)))
+    (λ t. let ((least, most), (mark, tag)) = notice (eqb-false (classOf h) 0 t) in
     split (eqb (classOf h) 3)
     (λ u. let z = eqb-true (classOf h) 3 u in
-    or-first x y (and-true (eqb h 939524096) (eqb n 8) (eq-eqb h 939524096 (omega (arith, q .1 .0, q .1 .1))) (eq-eqb n 8 (r .1 .1 .0 z))))
-    (λ u. let d = eqb-false (classOf h) 3 u in let z : classOf h ≡ 4 = omega (arith, d, q .0 .0, q .0 .1) in
-    or-second x y (and-true (eqb h 1207959552) (eqb n 14) (eq-eqb h 1207959552 (omega (arith, z, q .1 .0, q .1 .1))) (eq-eqb n 14 (r .1 .1 .1 z))))))
+    or-first x y (and-true (eqb h 939524096) (eqb n 8) (eq-eqb h 939524096 (omega (arith, mark, tag))) (eq-eqb n 8 (tick z))))
+    (λ u. let d = eqb-false (classOf h) 3 u in let z : classOf h ≡ 4 = omega (arith, d, least, most) in
+    or-second x y (and-true (eqb h 1207959552) (eqb n 14) (eq-eqb h 1207959552 (omega (arith, z, mark, tag))) (eq-eqb n 14 (exit z))))))
     (λ t. or-cases x y t
     (λ u. tick-holds h n (eqb-true h 939524096 (and-left (eqb h 939524096) (eqb n 8) u)) (eqb-true n 8 (and-right (eqb h 939524096) (eqb n 8) u)))
     (λ u. exit-holds h n (eqb-true h 1207959552 (and-left (eqb h 1207959552) (eqb n 14) u)) (eqb-true n 14 (and-right (eqb h 1207959552) (eqb n 14) u)))))

@@ -1,4 +1,4 @@
--- Two rules that say the same, and a counted list tested in two parts. Assumes nothing.
+-- Two rules that say the same, and a counted list tested in two parts.
 use Prim.Native.Nat.{ℕ, _≤_}
 use native.Mathlib.Omega.{arith}
 use mathlib.Core.Path.{_≡_}
@@ -6,7 +6,7 @@ use mathlib.Core.List.{List}
 use lib.ListN.{getD}
 use Rattle.rules.specs.Rule.{Rule, test, Holds, each, both, imp, lt, le, eq}
 use Rattle.rules.specs.Sound.{listRule}
-use Rattle.rules.proofs.RuleLaws.{reads, same-test}
+use Rattle.rules.proofs.Kept.Rules.{reads, same-test}
 
 -- two rules that say the same are tested the same
 pub same-rule : (r s : Rule) → (Holds r → Holds s) → (Holds s → Holds r) → test s ≡ test r

@@ -1,4 +1,4 @@
--- The rules of a mailbox entry with its owner's filter, and where the filters and the pairs stand among the others. Assumes nothing.
+-- The rules of a mailbox entry with its owner's filter, and where the filters and the pairs stand among the others.
 use Prim.Native.Nat.{ℕ, _+_, _-_, _*_, _≤_, _<_}
 use native.Mathlib.Decide.{decLt}
 use native.Mathlib.Omega.{arith}
@@ -12,8 +12,8 @@ use borrow.Author.Tests.{eq-eqb, le-leb, not-true}
 use Rattle.pools.specs.Bits.{bit, free}
 use Rattle.pools.proofs.BoolLaws.{true-false, and-right}
 use Rattle.rules.specs.Rule.{Rule, test, each, both, imp, le, eq}
-use Rattle.rules.proofs.RuleLaws.{all-more, reads}
-use Rattle.rules.specs.Sound.{slotRule, arrivalRule, boxRule, dataRule, linkRule, plainRules, lateRules}
+use Rattle.rules.proofs.Kept.Rules.{all-more, reads}
+use Rattle.rules.specs.Sound.{slotRule, arrivalRule, boxRule, dataRule, linkRule, plainRules, acrossRules}
 use Rattle.rules.specs.Terms.{WAITS, alive, awaits}
 use Rattle.sound.specs.Kinds.{keepRule, keptRule, frontRules, bitRules, boxRules, dataRules, timeRules, filterRules, pairRules, countRules, earlyRules}
 use Rattle.sound.specs.Standing.{Standing, livesIn, waitsIn}
@@ -78,7 +78,7 @@ module _ (k : Caps) (s : State) (a b : ℕ) (q : (e : ℕ) → a ≤ e → e < b
   pub run-free : test (each b (λ e. imp (le a e) (eq (at s MAIL-OWNER e) 0))) && test (each b (λ e. imp (le a e) (eq (at s MAIL-DATA e) 0))) ≡ test (each b (λ e. imp (le a e) (keptRule k s e)))
   run-free =
       same-rule (each b (λ e. imp (le a e) (keptRule k s e))) (both (each b (λ e. imp (le a e) (eq (at s MAIL-OWNER e) 0))) (each b (λ e. imp (le a e) (eq (at s MAIL-DATA e) 0))))
-      (λ h. (λ e l m. h e l m .0 .0 (q e m l) .0, λ e l m. h e l m .0 .0 (q e m l) .1))
+      (λ h. (λ e l m. let ((unused, _), _) = h e l m in unused (q e m l) .0, λ e l m. let ((unused, _), _) = h e l m in unused (q e m l) .1))
       (λ h e l m. ((λ f. (h .0 e l m, h .1 e l m), λ f. absurd (true-false (free (s MAIL-FREE) e) (q e m l) (not-true (free (s MAIL-FREE) e) f))), λ f. absurd (true-false (free (s MAIL-FREE) e) (q e m l) (not-true (free (s MAIL-FREE) e) (f .0)))))
 
 -- a word of ones: all entries are free that have their bit in it
@@ -100,15 +100,15 @@ module _ (k : Caps) (s : State) where
   pub slots-first : test (both (each (k .actors) (λ a. slotRule k s a)) (both (each (k .mails) (λ e. boxRule k s e)) (filterRules k s))) ≡ test (both (boxRules k s) (filterRules k s))
   slots-first =
       same-rule (both (boxRules k s) (filterRules k s)) (both (each (k .actors) (λ a. slotRule k s a)) (both (each (k .mails) (λ e. boxRule k s e)) (filterRules k s)))
-      (λ h. (h .0 .0, (h .0 .1, h .1)))
-      (λ h. ((h .0, h .1 .0), h .1 .1))
+      (λ ((slots, boxes), filters). (slots, (boxes, filters)))
+      (λ (slots, (boxes, filters)). ((slots, boxes), filters))
 
   -- the data entries, and then the links with the pairs
   pub datas-first : test (both (each (k .datas) (λ d. dataRule s d)) (both (each (k .links) (λ e. linkRule s e)) (pairRules k s))) ≡ test (both (dataRules k s) (pairRules k s))
   datas-first =
       same-rule (both (dataRules k s) (pairRules k s)) (both (each (k .datas) (λ d. dataRule s d)) (both (each (k .links) (λ e. linkRule s e)) (pairRules k s)))
-      (λ h. (h .0 .0, (h .0 .1, h .1)))
-      (λ h. ((h .0, h .1 .0), h .1 .1))
+      (λ ((datas, links), pairs). (datas, (links, pairs)))
+      (λ (datas, (links, pairs)). ((datas, links), pairs))
 
   -- ---- all rules, in the order that they are tested in
   abbrev pub plainTested : Rule
@@ -118,12 +118,12 @@ module _ (k : Caps) (s : State) where
   unfolding plainRules
   plain-parts =
       same-rule (earlyRules k s) plainTested
-      (λ h. (h .0 .0, (h .0 .1 .0, ((h .0 .1 .1 .0, h .1 .0), ((h .0 .1 .1 .1 .0, h .1 .1), h .0 .1 .1 .1 .1)))))
-      (λ h. ((h .0, (h .1 .0, (h .1 .1 .0 .0, (h .1 .1 .1 .0 .0, h .1 .1 .1 .1)))), (h .1 .1 .0 .1, h .1 .1 .1 .0 .1)))
+      (λ ((front, (bits, (boxes, (datas, times)))), (filters, pairs)). (front, (bits, ((boxes, filters), ((datas, pairs), times)))))
+      (λ (front, (bits, ((boxes, filters), ((datas, pairs), times)))). ((front, (bits, (boxes, (datas, times)))), (filters, pairs)))
 
-  pub late-parts : test (both (earlyRules k s) (countRules k s)) ≡ test (both (plainRules k s) (lateRules k s))
-  unfolding lateRules
+  pub late-parts : test (both (earlyRules k s) (countRules k s)) ≡ test (both (plainRules k s) (acrossRules k s))
+  unfolding acrossRules
   late-parts =
-      same-rule (both (plainRules k s) (lateRules k s)) (both (earlyRules k s) (countRules k s))
-      (λ h. ((h .0, (h .1 .1 .1 .1, h .1 .1 .1 .0)), (h .1 .0, h .1 .1 .0)))
-      (λ h. (h .0 .0, (h .1 .0, (h .1 .1, (h .0 .1 .1, h .0 .1 .0)))))
+      same-rule (both (plainRules k s) (acrossRules k s)) (both (earlyRules k s) (countRules k s))
+      (λ (plain, (exact, (held, (pairs, filters)))). ((plain, (filters, pairs)), (exact, held)))
+      (λ ((plain, (filters, pairs)), (exact, held)). (plain, (exact, (held, (pairs, filters)))))

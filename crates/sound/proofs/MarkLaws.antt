@@ -1,4 +1,4 @@
--- Entries marked in words of bits: one more, one after the other, all of them, and what the marks say of the lists that name them. Assumes nothing.
+-- Entries marked in words of bits: one more, one after the other, all of them, and what the marks say of the lists that name them.
 use Prim.Native.Nat.{ℕ, zero, suc, _+_, _-_, _*_, _/_, _%_, _^_, _≤_, _<_, min}
 use native.Mathlib.Nat.{pow-suc, one-mul, zero-mul, mod-one, div-eq-of-lt}
 use native.Mathlib.Numerals.{add-one}
@@ -23,14 +23,15 @@ use Rattle.pools.proofs.FreeLaws.{released-same, released-other, length-release
 use Rattle.pools.proofs.ListLaws.{occurs-append, occurs-snoc, occurs-place}
 use Rattle.rules.specs.Rule.{test, both, each, eq, is, lt, le, imp, Holds}
 use Rattle.rules.specs.Terms.{RUNNABLE}
-use Rattle.rules.specs.Sound.{headRule, slotRule, boxRule, onceRule, arrivedRule, heldRule, plainRules}
-use Rattle.rules.proofs.RuleLaws.{reads, same-test, and-same}
+use Rattle.rules.specs.Sound.{OWNERS, headRule, held, slotRule, boxRule, onceRule, arrivedRule, heldRule, plainRules}
+use Rattle.rules.proofs.Kept.Owners.{All, Names, all-at, held-few, owners-name, sole}
+use Rattle.rules.proofs.Kept.Rules.{reads, same-test, and-same}
 use Rattle.tables.specs.declared.Caps.{Caps}
-use Rattle.tables.specs.Columns.{ARRIVAL, ARRIVED, DATA-FREE, HAND, MAIL-DATA, MAIL-FREE, QUEUE, QUEUED, STATE, REST}
+use Rattle.tables.specs.Columns.{ARRIVAL, ARRIVED, DATA-FREE, MAIL-DATA, MAIL-FREE, QUEUE, QUEUED, STATE, REST}
 use Rattle.tables.specs.Sizes.{BIT-WORDS, COLUMN-BITS}
 use Rattle.tables.specs.State.{State, at, head, size, view, Room}
 use Rattle.tables.proofs.ViewLaws.{view-full}
-use Rattle.sound.specs.Marks.{Added, AddedBoth, Below, Resting, fullRule}
+use Rattle.sound.specs.Marks.{Added, AddedBoth, Below, OTHERS, Resting, fullRule}
 use Rattle.sound.proofs.WordLaws.{free-at}
 use Rattle.sound.proofs.ListLaws.{same-rule}
 
@@ -157,17 +158,20 @@ module _ (list names : List ℕ) where
 occurs-parts : (a n : ℕ) (list : List ℕ) → occurs a list ≡ occurs a (take n list) + occurs a (drop n list)
 occurs-parts a n list = ap (occurs a) (sym (take-append-drop n list)) ∙ occurs-append a (take n list) (drop n list)
 
--- the rest of a list, and then another, after its first n words
-pub both-rest : (n : ℕ) (entries hands : List ℕ) {c : ℕ → ℕ} {r x y : Bool} {s s′ h h′ h″ h‴ : List ℕ} → AddedBoth c (λ d. occurs (suc d) (take n entries)) r s s′ h h′ →
-    Added (λ d. occurs (suc d) (drop n entries)) x h′ h″ → Added (λ d. occurs (suc d) hands) y h″ h‴ →
-    AddedBoth c (λ d. occurs (suc d) entries + occurs (suc d) hands) (r && (x && y)) s s′ h h‴
-both-rest n entries hands {x = x} {y = y} a b z = record {
+-- others in the second set alone
+pub both-then : {c d o : ℕ → ℕ} {r x : Bool} {s s′ h h′ h″ : List ℕ} → AddedBoth c d r s s′ h h′ → Added o x h′ h″ → AddedBoth c (λ e. d e + o e) (r && x) s s′ h h″
+both-then {x = x} a b = record {
   inSeen = a .inSeen;
-  inHeld = a .inHeld && (x && y);
-  telling = ap (λ (q : Bool). q && (x && y)) (a .telling) ∙ sym (and-regroup (a .inSeen) (a .inHeld) (x && y));
+  inHeld = a .inHeld && x;
+  telling = ap (λ (q : Bool). q && x) (a .telling) ∙ sym (and-regroup (a .inSeen) (a .inHeld) x);
   addedSeen = a .addedSeen;
-  addedHeld = added-as (λ e. omega (arith, occurs-parts (suc e) n entries)) (added-both (a .addedHeld) (added-both b z));
+  addedHeld = added-both (a .addedHeld) b;
 }
+
+-- the rest of a list after its first n words
+pub both-rest : (n : ℕ) (entries : List ℕ) {c : ℕ → ℕ} {r x : Bool} {s s′ h h′ h″ : List ℕ} → AddedBoth c (λ d. occurs (suc d) (take n entries)) r s s′ h h′ → Added (λ d. occurs (suc d) (drop n entries)) x h′ h″ →
+    AddedBoth c (λ d. occurs (suc d) entries) (r && x) s s′ h h″
+both-rest n entries a b = both-as (λ e. refl) (λ e. sym (occurs-parts (suc e) n entries)) (both-then a b)
 
 -- a part of a list
 module _ (list : List ℕ) (from to : ℕ) where
@@ -364,47 +368,42 @@ not-resting states n word h b a l =
 module _ (k : Caps) (s : State) where
   head-of : Holds (plainRules k s) → Holds (headRule k s)
   unfolding plainRules
-  head-of h = h .0 .1 .0
+  head-of h = let ((_, (heads, _)), _) = h in heads
 
   slot-of : Holds (plainRules k s) → (a : ℕ) → a < k .actors → Holds (slotRule k s a)
   unfolding plainRules
-  slot-of h = h .1 .1 .0 .0
+  slot-of h = let (_, (_, ((slots, _), _))) = h in slots
 
   box-of : Holds (plainRules k s) → (e : ℕ) → e < k .mails → Holds (boxRule k s e)
   unfolding plainRules
-  box-of h = h .1 .1 .0 .1
-
-  -- a mailbox entry names a data entry, one up, or none
-  mail-few : Holds (plainRules k s) → (e : ℕ) → e < k .mails → at s MAIL-DATA e ≤ k .datas
-  mail-few h e l =
-      let m = box-of h e l .0 in
-      split (free (s MAIL-FREE) e) (λ t. omega (arith, m .0 t .1)) (λ t. m .1 (rw t) .1 .1)
+  box-of h = let (_, (_, ((_, boxes), _))) = h in boxes
 
 module _ (k : Caps) (w p : List ℕ) (room : Room k w p) (h : Holds (plainRules k (view k w p))) where
   -- a list names entries
   pub queue-below : {n : ℕ} {list : List ℕ} → n ≡ head (view k w p) QUEUED → list ≡ view k w p QUEUE → (n ≤ length list) × Below (k .actors) n list
   queue-below z y =
       let s = view k w p in
-      let q : head s QUEUED ≤ k .actors = head-of k s h .1 .0 in
-      rw (z, y) (omega (arith, view-full k w p (room .words) QUEUE (lit< tt)), λ i l. slot-of k s h i (omega arith) .1 .1 .1 .0 l)
+      let (_, (queued, _)) = head-of k s h in
+      rw (z, y) (omega (arith, view-full k w p (room .words) QUEUE (lit< tt)), λ i l. let (_, (_, (_, (within, _)))) = slot-of k s h i (omega arith) in within l)
 
   pub arrival-below : {n : ℕ} {list : List ℕ} → n ≡ head (view k w p) ARRIVED → list ≡ view k w p ARRIVAL → (n ≤ length list) × Below (k .mails) n list
   arrival-below z y =
       let s = view k w p in
-      let q : head s ARRIVED ≤ k .mails = head-of k s h .1 .1 in
-      rw (z, y) (omega (arith, view-full k w p (room .words) ARRIVAL (lit< tt)), λ i l. box-of k s h i (omega arith) .1 .0 l)
+      let (_, (_, arrived)) = head-of k s h in
+      rw (z, y) (omega (arith, view-full k w p (room .words) ARRIVAL (lit< tt)), λ i l. let (_, (within, _)) = box-of k s h i (omega arith) in within l)
 
   -- there are no more arrivals than mailbox entries
   pub arrived-few : {n : ℕ} {list : List ℕ} → n ≡ head (view k w p) ARRIVED → list ≡ view k w p MAIL-DATA → n ≤ length list
   arrived-few z y =
-      let q : head (view k w p) ARRIVED ≤ k .mails = head-of k (view k w p) h .1 .1 in
+      let (_, (_, arrived)) = head-of k (view k w p) h in
       rw (z, y) (omega (arith, view-full k w p (room .words) MAIL-DATA (lit< tt)))
 
-  pub mail-below : {list : List ℕ} → list ≡ view k w p MAIL-DATA → Below (suc (k .datas)) (length list) list
-  mail-below y = rw y (λ i l. omega (arith, mail-few k (view k w p) h i (omega (arith, view-full k w p (room .words) MAIL-DATA (lit< tt)))))
+  -- the words of the owners name data entries, one up, or none
+  all-name : All (Names k (view k w p)) OWNERS
+  all-name = owners-name k (view k w p) (view-full k w p (room .words)) h
 
-  pub hand-below : {list : List ℕ} → list ≡ view k w p HAND → Below (suc (k .datas)) (length list) list
-  hand-below y = rw y (λ i l. omega (arith, slot-of k (view k w p) h i (omega (arith, view-full k w p (room .words) HAND (lit< tt))) .0 .0 .1 .1))
+  pub owner-below : (c : ℕ) {list : List ℕ} → sole c OWNERS ≡ true → list ≡ view k w p c → Below (suc COLUMN-BITS) (length list) list
+  owner-below c o y = rw y (λ i l. omega (arith, all-at (Names k (view k w p)) OWNERS all-name c o i l, room .caps .fewDatas))
 
   -- a column of free bits, and one of a word for each slot
   pub bits-long : (c : ℕ) {bits : List ℕ} → c < REST → size k c ≡ BIT-WORDS → bits ≡ view k w p c → length bits ≡ BIT-WORDS
@@ -433,23 +432,20 @@ module _ (k : Caps) (w p : List ℕ) (room : Room k w p) (h : Holds (plainRules 
       (named-first (k .mails) n list (arrival-below z y .1))
       ∙ rw (z, y, x)
 
-  pub held-told : {mails hands bits s s′ : List ℕ} {r q : Bool} → mails ≡ view k w p MAIL-DATA → hands ≡ view k w p HAND → bits ≡ view k w p DATA-FREE → s ≡ bits →
-      Added (λ d. occurs (suc d) mails + occurs (suc d) hands) r s s′ → q ≡ test (each (k .datas) (λ e. is (free s′ e))) →
+  pub held-told : {bits s s′ : List ℕ} {r q : Bool} → bits ≡ view k w p DATA-FREE → s ≡ bits → Added (λ d. held OWNERS (view k w p) d) r s s′ → q ≡ test (each (k .datas) (λ e. is (free s′ e))) →
       r && q ≡ test (each (k .datas) (λ d. heldRule (view k w p) d))
-  held-told {mails} {hands} {bits} {s} z y x v a u =
-      named-once (k .datas) (λ d. occurs (suc d) mails + occurs (suc d) hands) (λ d. not (free bits d)) a u
+  held-told {bits} {s} x v a u =
+      named-once (k .datas) (λ d. held OWNERS (view k w p) d) (λ d. not (free bits d)) a u
       (λ e l. not-free bits s v e)
-      (λ d l. elim (decLt 0 (occurs (suc d) mails)) [
-        | yes m ↦ omega (arith, named (suc (k .datas)) mails (mail-below z) (suc d) m)
-        | no n ↦ omega (arith, named (suc (k .datas)) hands (hand-below y) (suc d) (omega arith))
-      ])
-      ∙ rw (z, y, x)
+      (λ d l. elim (decLt d (k .datas)) [ yes m ↦ m | no n ↦ absurd (omega (arith, l, held-few k (view k w p) OWNERS all-name d (omega arith))) ])
+      ∙ rw x
 
   -- both, side by side
-  pub counted-told : {n : ℕ} {list mails hands bits bits₂ s s′ h h′ : List ℕ} {r x y : Bool} → n ≡ head (view k w p) ARRIVED → list ≡ view k w p ARRIVAL → bits ≡ view k w p MAIL-FREE → s ≡ bits →
-      mails ≡ view k w p MAIL-DATA → hands ≡ view k w p HAND → bits₂ ≡ view k w p DATA-FREE → h ≡ bits₂ →
-      AddedBoth (λ e. occurs e (take n list)) (λ d. occurs (suc d) mails + occurs (suc d) hands) r s s′ h h′ →
-      x ≡ test (each (k .mails) (λ e. is (free s′ e))) → y ≡ test (each (k .datas) (λ e. is (free h′ e))) →
-      r && (x && y) ≡ test (both (each (k .mails) (λ e. arrivedRule (view k w p) e)) (each (k .datas) (λ d. heldRule (view k w p) d)))
-  counted-told {x = x} {y = y} z l b v m f b₂ v₂ a t u =
-      ap (λ (o : Bool). o && (x && y)) (a .telling) ∙ and-cross (a .inSeen) (a .inHeld) x y ∙ and-same (arrived-told z l b v (a .addedSeen) t) (held-told m f b₂ v₂ (a .addedHeld) u)
+  pub counted-told : {n : ℕ} {list mails bits bits₂ s s′ h h′ h″ : List ℕ} {r q x y : Bool} → n ≡ head (view k w p) ARRIVED → list ≡ view k w p ARRIVAL → bits ≡ view k w p MAIL-FREE → s ≡ bits →
+      mails ≡ view k w p MAIL-DATA → bits₂ ≡ view k w p DATA-FREE → h ≡ bits₂ →
+      AddedBoth (λ e. occurs e (take n list)) (λ d. occurs (suc d) mails) r s s′ h h′ → Added (λ d. held OTHERS (view k w p) d) q h′ h″ →
+      x ≡ test (each (k .mails) (λ e. is (free s′ e))) → y ≡ test (each (k .datas) (λ e. is (free h″ e))) →
+      (r && q) && (x && y) ≡ test (both (each (k .mails) (λ e. arrivedRule (view k w p) e)) (each (k .datas) (λ d. heldRule (view k w p) d)))
+  counted-told {x = x} {y = y} z l b v m b₂ v₂ f o t u =
+      let a : AddedBoth _ (λ d. held OWNERS (view k w p) d) _ _ _ _ _ = both-as (λ e. refl) (λ d. rw m) (both-then f o) in
+      ap (λ (o : Bool). o && (x && y)) (a .telling) ∙ and-cross (a .inSeen) (a .inHeld) x y ∙ and-same (arrived-told z l b v (a .addedSeen) t) (held-told b₂ v₂ (a .addedHeld) u)

@@ -1,4 +1,4 @@
--- The square of marks: what two marks more say of the pairs of links. Assumes nothing.
+-- The square of marks: what two marks more say of the pairs of links.
 use Prim.Native.Nat.{ℕ, suc, _+_, _-_, _*_, _/_, _%_, _^_, _≤_, _<_}
 use native.Mathlib.Omega.{arith}
 use mathlib.Core.Path.{_≡_, refl, sym, ap, _∙_}
@@ -11,11 +11,11 @@ use borrow.Author.Tests.{eqb-true, eqb-false, eq-eqb, ne-eqb}
 use Rattle.pools.specs.Bits.{bit, free, released}
 use Rattle.pools.proofs.BoolLaws.{split, and-left, and-right, and-true, same-bool}
 use Rattle.pools.proofs.MaskLaws.{or-mark}
-use Rattle.pools.proofs.BitLaws.{bit-none, one-shl}
+use Rattle.pools.proofs.BitLaws.{bit-none}
 use Rattle.pools.proofs.FreeLaws.{released-same, released-other, length-released}
 use Rattle.rules.specs.Rule.{test}
 use Rattle.rules.specs.Terms.{joins}
-use Rattle.rules.proofs.RuleLaws.{all-none, all-more}
+use Rattle.rules.proofs.Kept.Rules.{all-none, all-more}
 use Rattle.sound.specs.Pairs.{apart, place, Marked}
 use Rattle.sound.specs.Ties.{pairIn}
 
@@ -27,11 +27,13 @@ module _ (seen : List ℕ) (a b : ℕ) (h : b < 64) where
   rest-of : (a * 64 + b) % 64 ≡ b
   rest-of = omega arith
 
+  -- it is set
   pub bit-at : eqb (bit (getD seen a 0) b) 1 ≡ free seen (a * 64 + b)
   bit-at = rw (word-of, rest-of)
 
-  pub mark-at : set seen a (bitOr (getD seen a 0) ((1 * 2 ^ b) % 2 ^ 64)) ≡ released seen (a * 64 + b)
-  mark-at = rw (word-of, rest-of, one-shl b h) (ap (λ (x : ℕ). set seen a x) (or-mark (getD seen a 0) b))
+  -- it is marked
+  pub mark-at : set seen a (bitOr (getD seen a 0) (2 ^ b)) ≡ released seen (a * 64 + b)
+  mark-at = rw (word-of, rest-of) (ap (λ (x : ℕ). set seen a x) (or-mark (getD seen a 0) b))
 
 -- ---- one bit more
 mark : (w : List ℕ) (x i : ℕ) → x / 64 < length w → free (released w x) i ≡ eqb i x || free w i

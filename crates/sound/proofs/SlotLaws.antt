@@ -1,4 +1,4 @@
--- The rules of a slot tested by its state, and each slot and then the queue. Assumes nothing.
+-- The rules of a slot tested by its state, and each slot and then the queue.
 use Prim.Native.Nat.{ℕ}
 use native.Mathlib.Decide.{decLt}
 use native.Mathlib.Omega.{arith}
@@ -10,7 +10,7 @@ use borrow.Author.Tests.{eq-eqb}
 use Rattle.rules.specs.Rule.{Rule, test, each, both, imp, le, eq, differ}
 use Rattle.rules.specs.Sound.{waitRule, queueRule, slotRule}
 use Rattle.rules.specs.Terms.{RUNNABLE, TIMEOUT, WAITS}
-use Rattle.rules.proofs.RuleLaws.{and-same}
+use Rattle.rules.proofs.Kept.Rules.{and-same}
 use Rattle.sound.specs.Kinds.{formRule, restRule, waitingRule, ownRule}
 use Rattle.sound.proofs.ListLaws.{same-rule}
 use Rattle.sound.proofs.PayloadLaws.{or-test}
@@ -28,8 +28,8 @@ module _ (d s p r a h : ℕ) where
   form-free e =
       ap (λ (x : Bool). x && leb a OLDEST) (or-test (bitOr p r) h ∙ ap (λ (x : Bool). x && eqb h 0) (or-test p r))
       ∙ same-rule (formRule d s p r a h) (both (both (both (eq p 0) (eq r 0)) (eq h 0)) (le a OLDEST))
-      (λ q. (((q .1 .0 e .0, q .1 .1 (λ n. omega arith)), q .1 .0 e .1), q .0 .1 .0 .0))
-      (λ q. (((omega arith, (omega arith, omega arith)), ((q .1, λ z. e), omega arith)), (λ z. (q .0 .0 .0, q .0 .1), λ z. q .0 .0 .1)))
+      (λ ((_, ((age, _), _)), (unused, quiet)). (((unused e .0, quiet (λ n. omega arith)), unused e .1), age))
+      (λ (((level, reason), hand), age). (((omega arith, (omega arith, omega arith)), ((age, λ z. e), omega arith)), (λ z. (level, hand), λ z. reason)))
 
   -- the words of a slot in use
   abbrev pub usedRule : Rule
@@ -40,8 +40,8 @@ module _ (d s p r a h : ℕ) where
   pub form-used : (s ≡ 0 → ⊥) → test usedRule ≡ test (formRule d s p r a h)
   form-used n =
       same-rule (formRule d s p r a h) usedRule
-      (λ q. (q .0 .0, (q .1 .1, ((elim (decLt 0 a) [ yes l ↦ l | no m ↦ absurd (n (q .0 .1 .0 .1 (omega arith))) ], q .0 .1 .0 .0), q .0 .1 .1))))
-      (λ q. ((q .0, ((q .1 .1 .0 .1, λ z. absurd (omega arith)), q .1 .1 .1)), (λ z. absurd (n z), q .1 .0)))
+      (λ ((words, ((age, unborn), hand)), (_, quiet)). (words, (quiet, ((elim (decLt 0 a) [ yes l ↦ l | no m ↦ absurd (n (unborn (omega arith))) ], age), hand))))
+      (λ (words, (quiet, ((born, age), hand))). ((words, ((age, λ z. absurd (omega arith)), hand)), (λ z. absurd (n z), quiet)))
 
 -- ---- what it waits for
 module _ (s : State) (state a : ℕ) where
@@ -52,11 +52,14 @@ module _ (s : State) (state a : ℕ) where
   waits-no n =
       same-rule (waitingRule s state a) (restRule s a)
       (λ q. q .0 n)
-      (λ q. (λ z. q, ((omega arith, omega arith), ((omega arith, λ l. absurd (omega arith)), λ m. absurd (m (q .1 .1))))))
+      (λ q. let (_, (_, deadline)) = q in (λ z. q, ((omega arith, omega arith), ((omega arith, λ l. absurd (omega arith)), λ m. absurd (m deadline)))))
 
 -- ---- each slot, and each word of the queue
 pub slot-parts : (k : Caps) (s : State) (n : ℕ) → test (both (each n (λ a. ownRule k s a)) (each n (λ a. queueRule k s a))) ≡ test (each n (λ a. slotRule k s a))
 slot-parts k s n =
     same-rule (each n (λ a. slotRule k s a)) (both (each n (λ a. ownRule k s a)) (each n (λ a. queueRule k s a)))
-    (λ h. (λ a l. let q = h a l in ((q .0 .0, (q .0 .1 .0, q .0 .1 .1 .0)), ((q .0 .1 .1 .1, q .1 .0), q .1 .1 .0)), λ a l. h a l .1 .1 .1))
-    (λ h a l. let q = h .0 a l in ((q .0 .0, (q .0 .1 .0, (q .0 .1 .1, q .1 .0 .0))), (q .1 .0 .1, (q .1 .1, h .1 a l))))
+    (λ h. (
+      λ a l. let ((actor, (unused, (quiet, rest))), (waits, (runs, _))) = h a l in ((actor, (unused, quiet)), ((rest, waits), runs)),
+      λ a l. let (_, (_, (_, queue))) = h a l in queue,
+    ))
+    (λ h a l. let ((actor, (unused, quiet)), ((rest, waits), runs)) = h .0 a l in ((actor, (unused, (quiet, rest))), (waits, (runs, h .1 a l))))

@@ -1,4 +1,4 @@
--- The row of how slots stand: filled slot by slot, and what a word that is looked up there says of its slot. Assumes nothing.
+-- The row of how slots stand: filled slot by slot, and what a word that is looked up there says of its slot.
 use Prim.Native.Nat.{ℕ, zero, suc, _+_, _-_, _*_, _≤_, _<_}
 use native.Mathlib.Decide.{decLt}
 use native.Mathlib.Numerals.{add-one}

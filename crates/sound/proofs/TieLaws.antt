@@ -1,4 +1,4 @@
--- Links, monitors and timers: turn by turn, by the row of how slots stand, and as the rules have them. Assumes nothing.
+-- Links, monitors and timers: turn by turn, by the row of how slots stand, and as the rules have them.
 use Prim.Native.Nat.{ℕ, _+_, _-_, _≤_, _<_}
 use native.Mathlib.Decide.{decLt}
 use native.Mathlib.Omega.{arith}
@@ -13,7 +13,7 @@ use Rattle.pools.proofs.BoolLaws.{split, true-false, and-left, and-right}
 use Rattle.rules.specs.Rule.{test, each, both, is, le, eq}
 use Rattle.rules.specs.Sound.{linkRule, pairRule, monitorRule, timerRule}
 use Rattle.rules.specs.Terms.{alive}
-use Rattle.rules.proofs.RuleLaws.{reads, all-none, all-more, all-same, and-same}
+use Rattle.rules.proofs.Kept.Rules.{reads, all-none, all-more, all-same, and-same}
 use Rattle.sound.specs.Pairs.{Marked}
 use Rattle.sound.specs.Standing.{Standing, livesIn}
 use Rattle.sound.specs.Ties.{endsIn, linkIn, pairIn, monitorIn, timerIn, Inside, LinkSeen}
@@ -42,7 +42,7 @@ and-true′ false = refl
 module _ {row : List ℕ} (w : Inside row) where
   -- its ends are in the square
   pub ends-inside : (one two : ℕ) → test (endsIn row one two) ≡ true → ((1 ≤ one) × (one ≤ 64)) × ((1 ≤ two) × (two ≤ 64))
-  ends-inside one two t = let h = reads (endsIn row one two) .0 t in (w .slots one (h .0), w .slots two (h .1 .0))
+  ends-inside one two t = let (oneLives, (twoLives, _)) = reads (endsIn row one two) .0 t in (w .slots one oneLives, w .slots two twoLives)
 
   -- what is told of link i where the square has the pairs before it, and the square then
   link-more : (ones twos : List ℕ) (i : ℕ) {seen seen′ : List ℕ} {r : Bool} → Marked ones twos i seen →
@@ -101,14 +101,14 @@ module _ (row : List ℕ) (watcher watched age : ℕ) where
   pub monitor-none : watcher ≡ 0 → eqb watched 0 && leb age OLDEST ≡ test (monitorIn row watcher watched age)
   monitor-none z =
       same-rule (monitorIn row watcher watched age) (both (eq watched 0) (le age OLDEST))
-      (λ h. (h .1 .0 z, h .0 .0))
+      (λ ((age, _), (unused, _)). (unused z, age))
       (λ h. ((h .1, λ n. absurd (n z)), (λ q. h .0, λ n. absurd (n z))))
 
   pub monitor-used : (watcher ≡ 0 → ⊥) → test (both (endsIn row watcher watched) (both (le 1 age) (le age OLDEST))) ≡ test (monitorIn row watcher watched age)
   monitor-used n =
       same-rule (monitorIn row watcher watched age) (both (endsIn row watcher watched) (both (le 1 age) (le age OLDEST)))
-      (λ h. (h .1 .1 n, (h .0 .1 n, h .0 .0)))
-      (λ h. ((h .1 .1, λ q. h .1 .0), (λ z. absurd (n z), λ q. h .0)))
+      (λ ((age, born), (_, ends)). (ends n, (born n, age)))
+      (λ (ends, (born, age)). ((age, λ q. born), (λ z. absurd (n z), λ q. ends)))
 
 -- ---- a timer
 module _ (row : List ℕ) (owner age due interval : ℕ) where
@@ -116,15 +116,15 @@ module _ (row : List ℕ) (owner age due interval : ℕ) where
   timer-none z =
       ap (λ (x : Bool). x && leb age OLDEST) (or-test due interval)
       ∙ same-rule (timerIn row owner age due interval) (both (both (eq due 0) (eq interval 0)) (le age OLDEST))
-      (λ h. (h .1 .0 z, h .0 .0))
+      (λ ((age, _), (unused, _)). (unused z, age))
       (λ h. ((h .1, λ n. absurd (n z)), (λ q. h .0, λ n. absurd (n z))))
 
   pub timer-used : (owner ≡ 0 → ⊥) →
       test (both (both (is (livesIn row owner)) (both (le 1 age) (le age OLDEST))) (both (le due DUE-END) (le interval LONGEST))) ≡ test (timerIn row owner age due interval)
   timer-used n =
       same-rule (timerIn row owner age due interval) (both (both (is (livesIn row owner)) (both (le 1 age) (le age OLDEST))) (both (le due DUE-END) (le interval LONGEST)))
-      (λ h. ((h .1 .1 n .0, (h .0 .1 n, h .0 .0)), h .1 .1 n .1))
-      (λ h. ((h .0 .1 .1, λ q. h .0 .1 .0), (λ z. absurd (n z), λ q. (h .0 .0, h .1))))
+      (λ ((age, born), (_, used)). ((used n .0, (born n, age)), used n .1))
+      (λ ((lives, (born, age)), times). ((age, λ q. born), (λ z. absurd (n z), λ q. (lives, times))))
 
 -- ---- as the rules have them
 alive-inside : (states : List ℕ) (a : ℕ) → alive states a ≡ true → a < length states
@@ -151,5 +151,5 @@ module _ (s : State) {row : List ℕ} (h : Standing (s STATE) row) (n : ℕ) whe
   pub timers-same : test (each n (λ e. timerIn row (at s TIMER-OWNER e) (at s TIMER-AGE e) (at s DUE e) (at s INTERVAL e))) ≡ test (each n (λ e. timerRule s e))
   timers-same = all-same n _ _ (λ e l.
       same-rule (timerRule s e) (timerIn row (at s TIMER-OWNER e) (at s TIMER-AGE e) (at s DUE e) (at s INTERVAL e))
-      (λ q. (q .0, (q .1 .0, λ m. (lives-in h (at s TIMER-OWNER e) ∙ rw (le-leb 1 (at s TIMER-OWNER e) (omega arith)) (q .1 .1 m .0), q .1 .1 m .1))))
-      (λ q. (q .0, (q .1 .0, λ m. (and-right (leb 1 (at s TIMER-OWNER e)) (alive (s STATE) (at s TIMER-OWNER e - 1)) (sym (lives-in h (at s TIMER-OWNER e)) ∙ q .1 .1 m .0), q .1 .1 m .1)))))
+      (λ (age, (unused, used)). (age, (unused, λ m. (lives-in h (at s TIMER-OWNER e) ∙ rw (le-leb 1 (at s TIMER-OWNER e) (omega arith)) (used m .0), used m .1))))
+      (λ (age, (unused, used)). (age, (unused, λ m. (and-right (leb 1 (at s TIMER-OWNER e)) (alive (s STATE) (at s TIMER-OWNER e - 1)) (sym (lives-in h (at s TIMER-OWNER e)) ∙ used m .0), used m .1)))))

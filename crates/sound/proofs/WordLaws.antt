@@ -1,4 +1,4 @@
--- The bits of a word past a place, and a column of words tested word by word. Assumes nothing.
+-- The bits of a word past a place, and a column of words tested word by word.
 use Prim.Native.Nat.{ℕ, zero, suc, _+_, _-_, _*_, _/_, _%_, _^_, _≤_, _<_}
 use native.Mathlib.Nat.{pow-suc, div-one, add-zero, add-suc, div-le-self}
 use native.Mathlib.Decide.{decLt}
@@ -13,7 +13,7 @@ use borrow.Author.Tests.{eqb-true, eqb-false, eq-eqb, not-true}
 use Rattle.pools.specs.Bits.{bit, free}
 use Rattle.pools.proofs.BitLaws.{bit-zero, bit-suc, bit-none}
 use Rattle.rules.specs.Rule.{all, test}
-use Rattle.rules.proofs.RuleLaws.{all-none, same-test, reads}
+use Rattle.rules.proofs.Kept.Rules.{all-none, same-test, reads}
 use Rattle.sound.specs.Kinds.{wordRule}
 
 -- ---- a number with no bit is 0

@@ -1,4 +1,4 @@
--- Runs of zero bytes: as one number, one after the other, and two that meet. Assumes nothing.
+-- Runs of zero bytes: as one number, one after the other, and two that meet.
 use Prim.Native.Nat.{ℕ, zero, suc, _+_, _-_, _*_, _≤_, _<_}
 use native.Mathlib.Omega.{arith}
 use native.Mathlib.Decide.{decLt}
@@ -12,7 +12,7 @@ use borrow.Author.Tests.{eqb-true, eq-eqb, ne-eqb}
 use Rattle.records.specs.Bytes.{ofLe, field}
 use Rattle.rules.specs.Rule.{test, both}
 use Rattle.rules.specs.Sound.{zeros}
-use Rattle.rules.proofs.RuleLaws.{reads, same-test}
+use Rattle.rules.proofs.Kept.Rules.{reads, same-test}
 
 -- ---- a number is 0 exactly where all its bytes are
 bytes-zero : (l : List ℕ) → ofLe l ≡ 0 → (i : ℕ) → getD l i 0 ≡ 0

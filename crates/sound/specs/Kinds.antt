@@ -1,4 +1,4 @@
--- Parts of the rules, as the functions test them. Assumes nothing.
+-- Parts of the rules, as the functions test them.
 use Prim.Native.Nat.{ℕ, suc, _+_, _-_, _*_}
 use mathlib.Core.Bool.{not}
 use mathlib.Core.List.{List}

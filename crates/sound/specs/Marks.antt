@@ -1,13 +1,14 @@
--- A set of entries that is marked in words of bits, one entry after the other. Assumes nothing.
+-- A set of entries that is marked in words of bits, one entry after the other.
 use Prim.Native.Nat.{ℕ, _+_, _*_, _≤_, _<_}
 use mathlib.Core.Path.{_≡_}
 use mathlib.Core.Bool.{Bool, true, false, not, _&&_}
 use mathlib.Core.List.{List}
 use mir.Val.{boolByte}
-use lib.ListN.{length, getD}
+use lib.ListN.{length, getD, drop}
 use lib.Dec.{eqb}
 use Rattle.pools.specs.Bits.{WORD-BITS, bit, free}
 use Rattle.rules.specs.Rule.{Rule, is, lt, imp, each}
+use Rattle.rules.specs.Sound.{OWNERS}
 use Rattle.rules.specs.Terms.{RUNNABLE}
 
 -- the set after each entry e was marked c e times: where it is so told, none was marked twice; where not, one was
@@ -23,6 +24,10 @@ pub record AddedBoth (c d : ℕ → ℕ) (told : Bool) (seen seen′ held held�
   pub telling : told ≡ inSeen && inHeld
   pub addedSeen : Added c inSeen seen seen′
   pub addedHeld : Added d inHeld held held′
+
+-- the owners of data entries but the first, which are the queued messages
+abbrev pub OTHERS : List ℕ
+OTHERS = drop 1 OWNERS
 
 -- the first n words of a list are below m
 abbrev pub Below : ℕ → ℕ → List ℕ → Type 0

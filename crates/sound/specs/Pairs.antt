@@ -1,4 +1,4 @@
--- The square of bits that the pairs of links are marked in. Assumes nothing.
+-- The square of bits that the pairs of links are marked in.
 use Prim.Native.Nat.{ℕ, suc, _+_, _-_, _*_, _<_}
 use mathlib.Core.Path.{_≡_}
 use mathlib.Core.Bool.{Bool, not}

@@ -1,4 +1,4 @@
--- How the slots stand, in a row that has them one up, as words name them, and what the test of the mailboxes is lent. Assumes nothing.
+-- How the slots stand, in a row that has them one up, as words name them, and what the test of the mailboxes is lent.
 use Prim.Native.Nat.{ℕ, suc, _+_, _*_, _<_}
 use mathlib.Core.Path.{_≡_}
 use mathlib.Core.Bool.{Bool, not, _&&_}

@@ -1,4 +1,4 @@
--- The rules of links, monitors and timers, by the row that says how the slots stand. Assumes nothing.
+-- The rules of links, monitors and timers, by the row that says how the slots stand.
 use Prim.Native.Nat.{ℕ, _≤_}
 use mathlib.Core.Path.{_≡_}
 use mathlib.Core.Bool.{Bool, true, false, not}

@@ -1,11 +1,12 @@
 // The rules of one entry, each a test over the words that it reads.
 ghost use mathlib.Core.Path.{_≡_};
-ghost use Prim.Native.Nat.{_-_, _<_};
+ghost use Prim.Native.Nat.{_<_};
 ghost use Rattle.rules.specs.Rule.{test};
 ghost use Rattle.rules.specs.Sound.{spareRule, waitRule};
+ghost use Rattle.rules.specs.Host.{Tests};
 ghost use Rattle.sound.specs.Kinds.{formRule, formedRule, restRule, waitingRule, turnRule, ownRule};
 ghost use Rattle.tables.specs.Limits.{MOST-ACTORS};
-ghost use Rattle.tables.specs.State.{view, Room};
+ghost use Rattle.tables.specs.State.{Room};
 use rules::states::FREE;
 use rules::states::RUNNABLE;
 use rules::states::RUNS;
@@ -32,17 +33,10 @@ use tables::limits::LAST_LEVEL;
 use tables::limits::OLDEST;
 use tables::words::get;
 
-// One less, and 0 of 0: the slot or the entry that a word names.
-pub fn named(word: u64) -> u64
-    ensures { λ r. ⌜ r ≡ word - 1 ⌝ }
-{
-    if word == 0 { 0 } else { word - 1 }
-}
-
 // ---- the head
 pub fn spare_ok(t: &[u64], p: &[u8], k: Caps, i: u64) -> bool
     requires { ⌜ Room k (now t) (now p) ⌝ }
-    ensures { λ r. ⌜ r ≡ test (spareRule (view k (now (t .entry)) (now (p .entry))) i) ⌝ }
+    ensures { λ r. ⌜ Tests k (λ s. spareRule s i) (now (t .entry)) (now (p .entry)) r ⌝ }
 {
     get(t, p, k, SPARE, i) == 0
 }
@@ -63,7 +57,7 @@ fn form_ok(datas: u64, state: u64, priority: u64, reason: u64, age: u64, hand: u
 // The same of slot a, whose state is known.
 fn formed(t: &[u64], p: &[u8], k: Caps, a: u64, state: u64) -> bool
     requires { ⌜ Room k (now t) (now p) ⌝ }
-    ensures { λ r. ⌜ r ≡ test (formedRule k (view k (now (t .entry)) (now (p .entry))) state a) ⌝ }
+    ensures { λ r. ⌜ Tests k (λ s. formedRule k s state a) (now (t .entry)) (now (p .entry)) r ⌝ }
 {
     let priority = get(t, p, k, PRIORITY, a);
     let reason = get(t, p, k, REASON, a);
@@ -75,7 +69,7 @@ fn formed(t: &[u64], p: &[u8], k: Caps, a: u64, state: u64) -> bool
 // What slot a wants and its deadline are unset.
 fn rests(t: &[u64], p: &[u8], k: Caps, a: u64) -> bool
     requires { ⌜ Room k (now t) (now p) ⌝ }
-    ensures { λ r. ⌜ r ≡ test (restRule (view k (now (t .entry)) (now (p .entry))) a) ⌝ }
+    ensures { λ r. ⌜ Tests k (λ s. restRule s a) (now (t .entry)) (now (p .entry)) r ⌝ }
 {
     let sender = get(t, p, k, WANT_SENDER, a);
     let class = get(t, p, k, WANT_CLASS, a);
@@ -86,7 +80,7 @@ fn rests(t: &[u64], p: &[u8], k: Caps, a: u64) -> bool
 
 fn wait_ok(t: &[u64], p: &[u8], k: Caps, a: u64) -> bool
     requires { ⌜ Room k (now t) (now p) ⌝ }
-    ensures { λ r. ⌜ r ≡ test (waitRule (view k (now (t .entry)) (now (p .entry))) a) ⌝ }
+    ensures { λ r. ⌜ Tests k (λ s. waitRule s a) (now (t .entry)) (now (p .entry)) r ⌝ }
 {
     let sender = get(t, p, k, WANT_SENDER, a);
     let class = get(t, p, k, WANT_CLASS, a);
@@ -101,7 +95,7 @@ fn wait_ok(t: &[u64], p: &[u8], k: Caps, a: u64) -> bool
 // What slot a waits for, which is nothing where its state is another.
 fn waiting_ok(t: &[u64], p: &[u8], k: Caps, a: u64, state: u64) -> bool
     requires { ⌜ Room k (now t) (now p) ⌝ }
-    ensures { λ r. ⌜ r ≡ test (waitingRule (view k (now (t .entry)) (now (p .entry))) state a) ⌝ }
+    ensures { λ r. ⌜ Tests k (λ s. waitingRule s state a) (now (t .entry)) (now (p .entry)) r ⌝ }
 {
     if state == WAITS {
         return wait_ok(t, p, k, a);
@@ -112,7 +106,7 @@ fn waiting_ok(t: &[u64], p: &[u8], k: Caps, a: u64, state: u64) -> bool
 // Slot a runs where the head names it.
 fn turn_ok(t: &[u64], p: &[u8], k: Caps, a: u64, state: u64) -> bool
     requires { ⌜ Room k (now t) (now p) × (a < MOST-ACTORS) ⌝ }
-    ensures { λ r. ⌜ r ≡ test (turnRule (view k (now (t .entry)) (now (p .entry))) state a) ⌝ }
+    ensures { λ r. ⌜ Tests k (λ s. turnRule s state a) (now (t .entry)) (now (p .entry)) r ⌝ }
 {
     let runner = get(t, p, k, RUNNING, 0);
     ((state == RUNS) as u64) == ((runner == a + 1) as u64)
@@ -120,7 +114,7 @@ fn turn_ok(t: &[u64], p: &[u8], k: Caps, a: u64, state: u64) -> bool
 
 pub fn slot_ok(t: &[u64], p: &[u8], k: Caps, a: u64) -> bool
     requires { ⌜ Room k (now t) (now p) × (a < MOST-ACTORS) ⌝ }
-    ensures { λ r. ⌜ r ≡ test (ownRule k (view k (now (t .entry)) (now (p .entry))) a) ⌝ }
+    ensures { λ r. ⌜ Tests k (λ s. ownRule k s a) (now (t .entry)) (now (p .entry)) r ⌝ }
 {
     let state = get(t, p, k, STATE, a);
     let form = formed(t, p, k, a, state);

@@ -1,12 +1,12 @@
 // The rules of all entries of a kind: a loop for each kind, so that it is compiled for the columns that it reads.
-ghost use mathlib.Core.Path.{_≡_};
-ghost use Rattle.rules.specs.Rule.{test, both, each};
+ghost use Rattle.rules.specs.Rule.{both, each};
 ghost use Rattle.rules.specs.Sound.{spareRule, slotRule, boxRule};
+ghost use Rattle.rules.specs.Host.{Tests};
 ghost use Rattle.sound.specs.Kinds.{ownRule, filterRules};
 ghost use Rattle.sound.specs.Standing.{Standing};
 ghost use Rattle.tables.specs.Columns.{STATE};
 ghost use Rattle.tables.specs.Sizes.{SPARES};
-ghost use Rattle.tables.specs.State.{view, Room};
+ghost use Rattle.tables.specs.State.{Room, RoomWith};
 use crate::entries::slot_ok;
 use crate::entries::spare_ok;
 use crate::lists::list_ok;
@@ -23,7 +23,7 @@ use tables::words::get;
 
 pub fn spares(t: &[u64], p: &[u8], k: Caps) -> bool
     requires { ⌜ Room k (now t) (now p) ⌝ }
-    ensures { λ r. ⌜ r ≡ test (each SPARES (λ i. spareRule (view k (now (t .entry)) (now (p .entry))) i)) ⌝ }
+    ensures { λ r. ⌜ Tests k (λ s. each SPARES (λ i. spareRule s i)) (now (t .entry)) (now (p .entry)) r ⌝ }
 {
     let mut ok = true;
     let mut i: u64 = 0;
@@ -37,7 +37,7 @@ pub fn spares(t: &[u64], p: &[u8], k: Caps) -> bool
 // The words of each slot.
 fn owns(t: &[u64], p: &[u8], k: Caps) -> bool
     requires { ⌜ Room k (now t) (now p) ⌝ }
-    ensures { λ r. ⌜ r ≡ test (each (k .actors) (λ i. ownRule k (view k (now (t .entry)) (now (p .entry))) i)) ⌝ }
+    ensures { λ r. ⌜ Tests k (λ s. each (k .actors) (λ i. ownRule k s i)) (now (t .entry)) (now (p .entry)) r ⌝ }
 {
     let mut ok = true;
     let mut i: u64 = 0;
@@ -51,7 +51,7 @@ fn owns(t: &[u64], p: &[u8], k: Caps) -> bool
 // The slots, and then the queue.
 pub fn slots(t: &[u64], p: &[u8], k: Caps) -> bool
     requires { ⌜ Room k (now t) (now p) ⌝ }
-    ensures { λ r. ⌜ r ≡ test (each (k .actors) (λ i. slotRule k (view k (now (t .entry)) (now (p .entry))) i)) ⌝ }
+    ensures { λ r. ⌜ Tests k (λ s. each (k .actors) (λ i. slotRule k s i)) (now (t .entry)) (now (p .entry)) r ⌝ }
 {
     let owns = owns(t, p, k);
     let count = get(t, p, k, QUEUED, 0);
@@ -61,8 +61,8 @@ pub fn slots(t: &[u64], p: &[u8], k: Caps) -> bool
 
 // The mailbox entries, and then the list of arrivals.
 pub fn boxes(t: &[u64], p: &[u8], k: Caps, row: &[u8; PLACES]) -> bool
-    requires { ⌜ Room k (now t) (now p) × Standing (view k (now t) (now p) STATE) (now row) ⌝ }
-    ensures { λ r. ⌜ r ≡ test (both (each (k .mails) (λ i. boxRule k (view k (now (t .entry)) (now (p .entry))) i)) (filterRules k (view k (now (t .entry)) (now (p .entry))))) ⌝ }
+    requires { ⌜ RoomWith k (λ s. Standing (s STATE) (now row)) (now t) (now p) ⌝ }
+    ensures { λ r. ⌜ Tests k (λ s. both (each (k .mails) (λ i. boxRule k s i)) (filterRules k s)) (now (t .entry)) (now (p .entry)) r ⌝ }
 {
     let kept = kept(t, p, k, row);
     let count = get(t, p, k, ARRIVED, 0);

@@ -1,11 +1,12 @@
 // Do two lent buffers hold a sound runtime?
 ghost use mathlib.Core.Path.{_≡_};
 ghost use Rattle.rules.specs.Rule.{both, test, Holds};
-ghost use Rattle.rules.specs.Sound.{rangeRule, sizeRule, fitRule, capsRule, headRule, plainRules, lateRules, soundAt, soundRule};
+ghost use Rattle.rules.specs.Sound.{rangeRule, sizeRule, fitRule, capsRule, headRule, plainRules, acrossRules, soundAt, soundRule};
+ghost use Rattle.rules.specs.Host.{Tests};
 ghost use Rattle.sound.specs.Kinds.{frontRules, bitRules, boxRules, dataRules, timeRules, filterRules, pairRules, countRules, earlyRules};
 ghost use Rattle.sound.specs.Standing.{Standing};
 ghost use Rattle.tables.specs.Columns.{STATE};
-ghost use Rattle.tables.specs.State.{view, Room};
+ghost use Rattle.tables.specs.State.{Room, RoomWith};
 use every::boxes;
 use every::slots;
 use every::spares;
@@ -51,7 +52,6 @@ pub mod lists;
 pub mod mails;
 pub mod marks;
 pub mod messages;
-pub mod payload;
 pub mod standing;
 pub mod ties;
 pub mod words;
@@ -69,15 +69,15 @@ pub fn ranged(k: Caps) -> bool
 
 fn sized(t: &[u64], p: &[u8], k: Caps) -> bool
     requires { ⌜ Holds (rangeRule k) ⌝ }
-    ensures { λ r. ⌜ r ≡ test (sizeRule k (view k (now (t .entry)) (now (p .entry)))) ⌝ }
+    ensures { λ r. ⌜ Tests k (sizeRule k) (now (t .entry)) (now (p .entry)) r ⌝ }
 {
     let words = words_needed(k);
     let bytes = bytes_needed(k);
     (words <= t.len()) & (bytes <= p.len())
 }
 
-pub fn fits(t: &[u64], p: &[u8], k: Caps) -> bool
-    ensures { λ r. ⌜ r ≡ test (fitRule k (view k (now (t .entry)) (now (p .entry)))) ⌝ }
+pub fn suffices(t: &[u64], p: &[u8], k: Caps) -> bool
+    ensures { λ r. ⌜ Tests k (fitRule k) (now (t .entry)) (now (p .entry)) r ⌝ }
 {
     if ranged(k) {
         return sized(t, p, k);
@@ -88,7 +88,7 @@ pub fn fits(t: &[u64], p: &[u8], k: Caps) -> bool
 // ---- the rules that read a word where it stands
 fn caps_ok(t: &[u64], p: &[u8], k: Caps) -> bool
     requires { ⌜ Room k (now t) (now p) ⌝ }
-    ensures { λ r. ⌜ r ≡ test (capsRule k (view k (now (t .entry)) (now (p .entry)))) ⌝ }
+    ensures { λ r. ⌜ Tests k (capsRule k) (now (t .entry)) (now (p .entry)) r ⌝ }
 {
     let actors = get(t, p, k, ACTORS, 0);
     let mails = get(t, p, k, MAILS, 0);
@@ -103,7 +103,7 @@ fn caps_ok(t: &[u64], p: &[u8], k: Caps) -> bool
 
 fn head_ok(t: &[u64], p: &[u8], k: Caps) -> bool
     requires { ⌜ Room k (now t) (now p) ⌝ }
-    ensures { λ r. ⌜ r ≡ test (headRule k (view k (now (t .entry)) (now (p .entry)))) ⌝ }
+    ensures { λ r. ⌜ Tests k (headRule k) (now (t .entry)) (now (p .entry)) r ⌝ }
 {
     let clock = get(t, p, k, CLOCK, 0);
     let runner = get(t, p, k, RUNNING, 0);
@@ -115,7 +115,7 @@ fn head_ok(t: &[u64], p: &[u8], k: Caps) -> bool
 
 fn front_ok(t: &[u64], p: &[u8], k: Caps) -> bool
     requires { ⌜ Room k (now t) (now p) ⌝ }
-    ensures { λ r. ⌜ r ≡ test (frontRules k (view k (now (t .entry)) (now (p .entry)))) ⌝ }
+    ensures { λ r. ⌜ Tests k (frontRules k) (now (t .entry)) (now (p .entry)) r ⌝ }
 {
     let caps = caps_ok(t, p, k);
     let head = head_ok(t, p, k);
@@ -125,7 +125,7 @@ fn front_ok(t: &[u64], p: &[u8], k: Caps) -> bool
 
 fn all_bits_ok(t: &[u64], p: &[u8], k: Caps) -> bool
     requires { ⌜ Room k (now t) (now p) ⌝ }
-    ensures { λ r. ⌜ r ≡ test (bitRules k (view k (now (t .entry)) (now (p .entry)))) ⌝ }
+    ensures { λ r. ⌜ Tests k (bitRules k) (now (t .entry)) (now (p .entry)) r ⌝ }
 {
     let mails = words_ok(t, p, k, MAIL_FREE, k.mails);
     let datas = words_ok(t, p, k, DATA_FREE, k.datas);
@@ -134,8 +134,8 @@ fn all_bits_ok(t: &[u64], p: &[u8], k: Caps) -> bool
 
 // The slots and the mailbox entries, with the filters.
 fn boxes_ok(t: &[u64], p: &[u8], k: Caps, row: &[u8; PLACES]) -> bool
-    requires { ⌜ Room k (now t) (now p) × Standing (view k (now t) (now p) STATE) (now row) ⌝ }
-    ensures { λ r. ⌜ r ≡ test (both (boxRules k (view k (now (t .entry)) (now (p .entry)))) (filterRules k (view k (now (t .entry)) (now (p .entry))))) ⌝ }
+    requires { ⌜ RoomWith k (λ s. Standing (s STATE) (now row)) (now t) (now p) ⌝ }
+    ensures { λ r. ⌜ Tests k (λ s. both (boxRules k s) (filterRules k s)) (now (t .entry)) (now (p .entry)) r ⌝ }
 {
     let slots = slots(t, p, k);
     let boxes = boxes(t, p, k, row);
@@ -144,8 +144,8 @@ fn boxes_ok(t: &[u64], p: &[u8], k: Caps, row: &[u8; PLACES]) -> bool
 
 // The data entries and the links, with the pairs.
 fn datas_ok(t: &[u64], p: &[u8], k: Caps, row: &[u8; PLACES]) -> bool
-    requires { ⌜ Room k (now t) (now p) × Standing (view k (now t) (now p) STATE) (now row) ⌝ }
-    ensures { λ r. ⌜ r ≡ test (both (dataRules k (view k (now (t .entry)) (now (p .entry)))) (pairRules k (view k (now (t .entry)) (now (p .entry))))) ⌝ }
+    requires { ⌜ RoomWith k (λ s. Standing (s STATE) (now row)) (now t) (now p) ⌝ }
+    ensures { λ r. ⌜ Tests k (λ s. both (dataRules k s) (pairRules k s)) (now (t .entry)) (now (p .entry)) r ⌝ }
 {
     let datas = datas(t, p, k);
     let links = links(t, p, k, row);
@@ -153,8 +153,8 @@ fn datas_ok(t: &[u64], p: &[u8], k: Caps, row: &[u8; PLACES]) -> bool
 }
 
 fn times_ok(t: &[u64], p: &[u8], k: Caps, row: &[u8; PLACES]) -> bool
-    requires { ⌜ Room k (now t) (now p) × Standing (view k (now t) (now p) STATE) (now row) ⌝ }
-    ensures { λ r. ⌜ r ≡ test (timeRules k (view k (now (t .entry)) (now (p .entry)))) ⌝ }
+    requires { ⌜ RoomWith k (λ s. Standing (s STATE) (now row)) (now t) (now p) ⌝ }
+    ensures { λ r. ⌜ Tests k (timeRules k) (now (t .entry)) (now (p .entry)) r ⌝ }
 {
     let monitors = monitors(t, p, k, row);
     let timers = timers(t, p, k, row);
@@ -163,8 +163,8 @@ fn times_ok(t: &[u64], p: &[u8], k: Caps, row: &[u8; PLACES]) -> bool
 
 // All of them, and the filters and the pairs, which are tested with the entries that they belong to. The row says how the slots stand.
 fn plain_ok(t: &[u64], p: &[u8], k: Caps, row: &[u8; PLACES]) -> bool
-    requires { ⌜ Room k (now t) (now p) × Standing (view k (now t) (now p) STATE) (now row) ⌝ }
-    ensures { λ r. ⌜ r ≡ test (earlyRules k (view k (now (t .entry)) (now (p .entry)))) ⌝ }
+    requires { ⌜ RoomWith k (λ s. Standing (s STATE) (now row)) (now t) (now p) ⌝ }
+    ensures { λ r. ⌜ Tests k (earlyRules k) (now (t .entry)) (now (p .entry)) r ⌝ }
 {
     let front = front_ok(t, p, k);
     let bits = all_bits_ok(t, p, k);
@@ -177,7 +177,7 @@ fn plain_ok(t: &[u64], p: &[u8], k: Caps, row: &[u8; PLACES]) -> bool
 // The same, by a row that is made here.
 fn early_ok(t: &[u64], p: &[u8], k: Caps) -> bool
     requires { ⌜ Room k (now t) (now p) ⌝ }
-    ensures { λ r. ⌜ r ≡ test (earlyRules k (view k (now (t .entry)) (now (p .entry)))) ⌝ }
+    ensures { λ r. ⌜ Tests k (earlyRules k) (now (t .entry)) (now (p .entry)) r ⌝ }
 {
     let mut row = [0u8; PLACES];
     stand(column(t, p, k, STATE), &mut row);
@@ -186,8 +186,8 @@ fn early_ok(t: &[u64], p: &[u8], k: Caps) -> bool
 
 // ---- the rules that count over a whole column
 fn late_ok(t: &[u64], p: &[u8], k: Caps) -> bool
-    requires { ⌜ Room k (now t) (now p) × Holds (plainRules k (view k (now t) (now p))) ⌝ }
-    ensures { λ r. ⌜ r ≡ test (countRules k (view k (now (t .entry)) (now (p .entry)))) ⌝ }
+    requires { ⌜ RoomWith k (λ s. Holds (plainRules k s)) (now t) (now p) ⌝ }
+    ensures { λ r. ⌜ Tests k (countRules k) (now (t .entry)) (now (p .entry)) r ⌝ }
 {
     let once = once_ok(t, p, k);
     let counted = counted_ok(t, p, k);
@@ -197,7 +197,7 @@ fn late_ok(t: &[u64], p: &[u8], k: Caps) -> bool
 // ---- all of them
 fn rules_ok(t: &[u64], p: &[u8], k: Caps) -> bool
     requires { ⌜ Room k (now t) (now p) ⌝ }
-    ensures { λ r. ⌜ r ≡ test (both (plainRules k (view k (now (t .entry)) (now (p .entry)))) (lateRules k (view k (now (t .entry)) (now (p .entry))))) ⌝ }
+    ensures { λ r. ⌜ Tests k (λ s. both (plainRules k s) (acrossRules k s)) (now (t .entry)) (now (p .entry)) r ⌝ }
 {
     if early_ok(t, p, k) {
         return late_ok(t, p, k);
@@ -206,9 +206,9 @@ fn rules_ok(t: &[u64], p: &[u8], k: Caps) -> bool
 }
 
 fn sound_at(t: &[u64], p: &[u8], k: Caps) -> bool
-    ensures { λ r. ⌜ r ≡ test (soundAt k (view k (now (t .entry)) (now (p .entry)))) ⌝ }
+    ensures { λ r. ⌜ Tests k (soundAt k) (now (t .entry)) (now (p .entry)) r ⌝ }
 {
-    if fits(t, p, k) {
+    if suffices(t, p, k) {
         return rules_ok(t, p, k);
     }
     false

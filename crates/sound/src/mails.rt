@@ -2,20 +2,21 @@
 ghost use mathlib.Core.Path.{_≡_};
 ghost use Prim.Native.Nat.{_+_, _*_, _≤_, _<_, min};
 ghost use Rattle.pools.specs.Bits.{WORD-BITS};
-ghost use Rattle.rules.specs.Rule.{test, each, imp, le};
+ghost use Rattle.rules.specs.Rule.{each, imp, le};
+ghost use Rattle.rules.specs.Host.{Tests};
 ghost use Rattle.sound.specs.Kinds.{keepRule, keptRule};
 ghost use Rattle.sound.specs.Standing.{Standing, Lent};
 ghost use Rattle.tables.specs.Columns.{STATE};
 ghost use Rattle.tables.specs.Sizes.{BIT-WORDS};
-ghost use Rattle.tables.specs.State.{view, Room};
-use crate::entries::named;
+ghost use Rattle.tables.specs.State.{RoomWith};
 use crate::lists::zero_from;
-use crate::payload::awaited;
 use crate::standing::PLACES;
 use crate::standing::lives;
 use crate::standing::waits;
 use pools::bits::WORD_BITS;
 use pools::bits::is_free;
+use reading::filters::awaited;
+use reading::names::named;
 use tables::Caps;
 use tables::columns::MAIL_DATA;
 use tables::columns::MAIL_FREE;
@@ -24,8 +25,8 @@ use tables::words::column;
 
 // The words of an entry in use: a live owner's, and a data entry's, which the owner does not await.
 fn keep_ok(t: &[u64], p: &[u8], k: Caps, row: &[u8; PLACES], owner: u64, entry: u64) -> bool
-    requires { ⌜ Room k (now t) (now p) × Standing (view k (now t) (now p) STATE) (now row) ⌝ }
-    ensures { λ r. ⌜ r ≡ test (keepRule k (view k (now (t .entry)) (now (p .entry))) owner entry) ⌝ }
+    requires { ⌜ RoomWith k (λ s. Standing (s STATE) (now row)) (now t) (now p) ⌝ }
+    ensures { λ r. ⌜ Tests k (λ s. keepRule k s owner entry) (now (t .entry)) (now (p .entry)) r ⌝ }
 {
     let lives = lives(row, owner);
     let fine = lives & ((1 <= entry) & (entry <= (k.datas as u64)));
@@ -46,8 +47,8 @@ fn kept_ok(
     entries: &[u64],
     e: usize,
 ) -> bool
-    requires { ⌜ Room k (now t) (now p) × Lent (view k (now t) (now p)) (now row) (now bits) (now owners) (now entries) × (e < k .mails) ⌝ }
-    ensures { λ r. ⌜ r ≡ test (keptRule k (view k (now (t .entry)) (now (p .entry))) e) ⌝ }
+    requires { ⌜ RoomWith k (λ s. Lent s (now row) (now bits) (now owners) (now entries) × (e < k .mails)) (now t) (now p) ⌝ }
+    ensures { λ r. ⌜ Tests k (λ s. keptRule k s e) (now (t .entry)) (now (p .entry)) r ⌝ }
 {
     let owner = owners[e];
     let entry = entries[e];
@@ -70,8 +71,8 @@ fn kept_between(
     from: usize,
     end: usize,
 ) -> bool
-    requires { ⌜ Room k (now t) (now p) × Lent (view k (now t) (now p)) (now row) (now bits) (now owners) (now entries) × (from ≤ end) × (end ≤ k .mails) ⌝ }
-    ensures { λ r. ⌜ r ≡ test (each end (λ e. imp (le from e) (keptRule k (view k (now (t .entry)) (now (p .entry))) e))) ⌝ }
+    requires { ⌜ RoomWith k (λ s. Lent s (now row) (now bits) (now owners) (now entries) × (from ≤ end) × (end ≤ k .mails)) (now t) (now p) ⌝ }
+    ensures { λ r. ⌜ Tests k (λ s. each end (λ e. imp (le from e) (keptRule k s e))) (now (t .entry)) (now (p .entry)) r ⌝ }
 {
     let mut ok = true;
     let mut e = from;
@@ -104,8 +105,8 @@ fn kept_run(
     from: usize,
     end: usize,
 ) -> bool
-    requires { ⌜ Room k (now t) (now p) × Lent (view k (now t) (now p)) (now row) (now bits) (now owners) (now entries) × (j < BIT-WORDS) × (from ≡ min (WORD-BITS * j) (k .mails)) × (end ≡ min (WORD-BITS * j + WORD-BITS) (k .mails)) ⌝ }
-    ensures { λ r. ⌜ r ≡ test (each end (λ e. imp (le from e) (keptRule k (view k (now (t .entry)) (now (p .entry))) e))) ⌝ }
+    requires { ⌜ RoomWith k (λ s. Lent s (now row) (now bits) (now owners) (now entries) × (j < BIT-WORDS) × (from ≡ min (WORD-BITS * j) (k .mails)) × (end ≡ min (WORD-BITS * j + WORD-BITS) (k .mails))) (now t) (now p) ⌝ }
+    ensures { λ r. ⌜ Tests k (λ s. each end (λ e. imp (le from e) (keptRule k s e))) (now (t .entry)) (now (p .entry)) r ⌝ }
 {
     if bits[j] == 0xffff_ffff_ffff_ffff {
         let owned = zero_from(owners, from, end);
@@ -125,8 +126,8 @@ fn kept_in(
     owners: &[u64],
     entries: &[u64],
 ) -> bool
-    requires { ⌜ Room k (now t) (now p) × Lent (view k (now t) (now p)) (now row) (now bits) (now owners) (now entries) ⌝ }
-    ensures { λ r. ⌜ r ≡ test (each (k .mails) (λ e. keptRule k (view k (now (t .entry)) (now (p .entry))) e)) ⌝ }
+    requires { ⌜ RoomWith k (λ s. Lent s (now row) (now bits) (now owners) (now entries)) (now t) (now p) ⌝ }
+    ensures { λ r. ⌜ Tests k (λ s. each (k .mails) (λ e. keptRule k s e)) (now (t .entry)) (now (p .entry)) r ⌝ }
 {
     let mut ok = true;
     let mut from = 0;
@@ -142,8 +143,8 @@ fn kept_in(
 
 // The mailbox entries, with the filters of their owners.
 pub fn kept(t: &[u64], p: &[u8], k: Caps, row: &[u8; PLACES]) -> bool
-    requires { ⌜ Room k (now t) (now p) × Standing (view k (now t) (now p) STATE) (now row) ⌝ }
-    ensures { λ r. ⌜ r ≡ test (each (k .mails) (λ e. keptRule k (view k (now (t .entry)) (now (p .entry))) e)) ⌝ }
+    requires { ⌜ RoomWith k (λ s. Standing (s STATE) (now row)) (now t) (now p) ⌝ }
+    ensures { λ r. ⌜ Tests k (λ s. each (k .mails) (λ e. keptRule k s e)) (now (t .entry)) (now (p .entry)) r ⌝ }
 {
     let bits = column(t, p, k, MAIL_FREE);
     let owners = column(t, p, k, MAIL_OWNER);

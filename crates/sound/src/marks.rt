@@ -7,12 +7,14 @@ ghost use lib.ListN.{length, take, drop};
 ghost use Rattle.pools.specs.Bits.{WORD-BITS, free};
 ghost use Rattle.pools.specs.Pool.{occurs};
 ghost use Rattle.rules.specs.Rule.{test, both, each, is, Holds};
-ghost use Rattle.rules.specs.Sound.{plainRules, onceRule, arrivedRule, heldRule};
-ghost use Rattle.sound.specs.Marks.{Added, AddedBoth, Below, Resting, fullRule};
+ghost use Rattle.rules.specs.Sound.{held, plainRules, onceRule, arrivedRule, heldRule};
+ghost use Rattle.sound.specs.Marks.{Added, AddedBoth, Below, OTHERS, Resting, fullRule};
+ghost use Rattle.rules.specs.Host.{Tests};
 ghost use Rattle.tables.specs.Sizes.{BIT-WORDS, COLUMN-BITS};
-ghost use Rattle.tables.specs.State.{view, Room};
+ghost use Rattle.tables.specs.State.{Of, RoomWith};
 use crate::lists::zero_from;
 use pools::bits::WORD_BITS;
+use pools::bits::power;
 use rules::states::RUNNABLE;
 use tables::Caps;
 use tables::columns::ARRIVAL;
@@ -38,7 +40,7 @@ fn mark(seen: &mut [u64; BIT_WORDS], e: usize) -> bool
     ensures { λ r. ⌜ Added (λ d. boolByte (eqb e d)) r (now (seen .entry)) (now (seen .exit)) ⌝ }
 {
     let word = seen[e / WORD_BITS];
-    let bit = 1 << (e % WORD_BITS);
+    let bit = power(e % WORD_BITS);
     seen[e / WORD_BITS] = word | bit;
     (word & bit) == 0
 }
@@ -141,22 +143,28 @@ fn marks_rest(list: &[u64], n: usize, seen: &mut [u64; BIT_WORDS]) -> bool
     ok
 }
 
-// The first n arrivals in one set, and in another all that the mailbox entries and the hands name.
-fn marks_all(
+// The first n arrivals in one set, and in another all that the mailbox entries name.
+fn marks_mails(
     arrivals: &[u64],
     entries: &[u64],
-    hands: &[u64],
     n: usize,
     seen: &mut [u64; BIT_WORDS],
     held: &mut [u64; BIT_WORDS],
 ) -> bool
-    requires { ⌜ (n ≤ length (now arrivals)) × (n ≤ length (now entries)) × Below COLUMN-BITS n (now arrivals) × Below (suc COLUMN-BITS) (length (now entries)) (now entries) × Below (suc COLUMN-BITS) (length (now hands)) (now hands) × (length (now seen) ≡ BIT-WORDS) × (length (now held) ≡ BIT-WORDS) ⌝ }
-    ensures { λ r. ⌜ AddedBoth (λ e. occurs e (take n (now (arrivals .entry)))) (λ d. occurs (suc d) (now (entries .entry)) + occurs (suc d) (now (hands .entry))) r (now (seen .entry)) (now (seen .exit)) (now (held .entry)) (now (held .exit)) ⌝ }
+    requires { ⌜ (n ≤ length (now arrivals)) × (n ≤ length (now entries)) × Below COLUMN-BITS n (now arrivals) × Below (suc COLUMN-BITS) (length (now entries)) (now entries) × (length (now seen) ≡ BIT-WORDS) × (length (now held) ≡ BIT-WORDS) ⌝ }
+    ensures { λ r. ⌜ AddedBoth (λ e. occurs e (take n (now (arrivals .entry)))) (λ d. occurs (suc d) (now (entries .entry))) r (now (seen .entry)) (now (seen .exit)) (now (held .entry)) (now (held .exit)) ⌝ }
 {
     let first = marks_both(arrivals, entries, n, seen, held);
     let rest = marks_rest(entries, n, held);
-    let palms = marks_up(hands, held);
-    first & (rest & palms)
+    first & rest
+}
+
+// All that the owners of data entries name, apart from the queued messages: a call for each.
+fn marks_others(t: &[u64], p: &[u8], k: Caps, seen: &mut [u64; BIT_WORDS]) -> bool
+    requires { ⌜ RoomWith k (λ s. Holds (plainRules k s)) (now t) (now p) × (length (now seen) ≡ BIT-WORDS) ⌝ }
+    ensures { λ r. ⌜ Of k (λ s. Added (λ d. held OTHERS s d) r (now (seen .entry)) (now (seen .exit))) (now (t .entry)) (now (p .entry)) ⌝ }
+{
+    marks_up(column(t, p, k, HAND), seen)
 }
 
 // ---- what is marked at first
@@ -221,8 +229,8 @@ fn all_marked(seen: &[u64; BIT_WORDS], n: usize) -> bool
 // ---- the rules
 // Is each runnable actor in the queue once, and no other?
 pub fn once_ok(t: &[u64], p: &[u8], k: Caps) -> bool
-    requires { ⌜ Room k (now t) (now p) × Holds (plainRules k (view k (now t) (now p))) ⌝ }
-    ensures { λ r. ⌜ r ≡ test (each (k .actors) (λ a. onceRule (view k (now (t .entry)) (now (p .entry))) a)) ⌝ }
+    requires { ⌜ RoomWith k (λ s. Holds (plainRules k s)) (now t) (now p) ⌝ }
+    ensures { λ r. ⌜ Tests k (λ s. each (k .actors) (λ a. onceRule s a)) (now (t .entry)) (now (p .entry)) r ⌝ }
 {
     let mut seen = [resting(column(t, p, k, STATE), k.actors), 0, 0, 0];
     let n = get(t, p, k, QUEUED, 0) as usize;
@@ -231,19 +239,19 @@ pub fn once_ok(t: &[u64], p: &[u8], k: Caps) -> bool
     once & all
 }
 
-// Is each mailbox entry that is in use among the arrivals once, and no other? And is each data entry that is in use a queued message's or in a hand, once, and no other?
+// Is each mailbox entry that is in use among the arrivals once, and no other? And does each data entry that is in use have one owner, and no other any?
 pub fn counted_ok(t: &[u64], p: &[u8], k: Caps) -> bool
-    requires { ⌜ Room k (now t) (now p) × Holds (plainRules k (view k (now t) (now p))) ⌝ }
-    ensures { λ r. ⌜ r ≡ test (both (each (k .mails) (λ e. arrivedRule (view k (now (t .entry)) (now (p .entry))) e)) (each (k .datas) (λ d. heldRule (view k (now (t .entry)) (now (p .entry))) d))) ⌝ }
+    requires { ⌜ RoomWith k (λ s. Holds (plainRules k s)) (now t) (now p) ⌝ }
+    ensures { λ r. ⌜ Tests k (λ s. both (each (k .mails) (λ e. arrivedRule s e)) (each (k .datas) (λ d. heldRule s d))) (now (t .entry)) (now (p .entry)) r ⌝ }
 {
     let mut seen = copied(column(t, p, k, MAIL_FREE));
     let mut held = copied(column(t, p, k, DATA_FREE));
     let arrivals = column(t, p, k, ARRIVAL);
     let entries = column(t, p, k, MAIL_DATA);
-    let hands = column(t, p, k, HAND);
     let n = get(t, p, k, ARRIVED, 0) as usize;
-    let once = marks_all(arrivals, entries, hands, n, &mut seen, &mut held);
+    let once = marks_mails(arrivals, entries, n, &mut seen, &mut held);
+    let others = marks_others(t, p, k, &mut held);
     let mails = all_marked(&seen, k.mails);
     let datas = all_marked(&held, k.datas);
-    once & (mails & datas)
+    (once & others) & (mails & datas)
 }

@@ -5,14 +5,15 @@ ghost use lib.ListN.{length, getD};
 ghost use Rattle.records.specs.Header.{classOf};
 ghost use Rattle.rules.specs.Rule.{test, both, each};
 ghost use Rattle.rules.specs.Sound.{headerRule, lengthRule, senderRule, dataRule};
+ghost use Rattle.rules.specs.Host.{Tests};
 ghost use Rattle.sound.specs.Kinds.{writtenRule, entryRule};
 ghost use Rattle.tables.specs.Columns.{PAYLOAD};
 ghost use Rattle.tables.specs.Limits.{ENTRY-BYTES};
-ghost use Rattle.tables.specs.State.{view, Room};
-use crate::payload::class_in;
+ghost use Rattle.tables.specs.State.{Room, Reads};
 use crate::zeros::joined;
 use crate::zeros::rest_zero;
 use pools::bits::is_free;
+use reading::headers::class_in;
 use records::bytes::load32;
 use tables::Caps;
 use tables::columns::AGE;
@@ -60,9 +61,9 @@ fn message_ok(area: &[u8], ages: &[u64], sender: u64, len: u64, d: usize) -> boo
     }
     let header = load32(area, ENTRY_BYTES * d);
     let zero = rest_zero(area, ENTRY_BYTES * d, HEADER_BYTES + (len as usize));
-    let fits = header_ok(header, len);
+    let right = header_ok(header, len);
     let from = sender_ok(ages, class_in(header), sender);
-    fits & (from & zero)
+    right & (from & zero)
 }
 
 // ---- entries
@@ -101,7 +102,7 @@ fn entries_ok(
 // The payload area.
 fn area_of<'a>(t: &[u64], p: &'a [u8], k: Caps) -> &'a [u8]
     requires { ⌜ Room k (now t) (now p) ⌝ }
-    ensures { λ r. ⌜ now r ≡ view k (now (t .entry)) (now (p .entry)) PAYLOAD ⌝ }
+    ensures { λ r. ⌜ Reads k (λ s. s PAYLOAD) (now (t .entry)) (now (p .entry)) (now r) ⌝ }
 {
     let end = bytes_needed(k);
     &p[0..end]
@@ -109,7 +110,7 @@ fn area_of<'a>(t: &[u64], p: &'a [u8], k: Caps) -> &'a [u8]
 
 pub fn datas(t: &[u64], p: &[u8], k: Caps) -> bool
     requires { ⌜ Room k (now t) (now p) ⌝ }
-    ensures { λ r. ⌜ r ≡ test (each (k .datas) (λ d. dataRule (view k (now (t .entry)) (now (p .entry))) d)) ⌝ }
+    ensures { λ r. ⌜ Tests k (λ s. each (k .datas) (λ d. dataRule s d)) (now (t .entry)) (now (p .entry)) r ⌝ }
 {
     let area = area_of(t, p, k);
     let bits = column(t, p, k, DATA_FREE);

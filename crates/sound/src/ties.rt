@@ -5,13 +5,16 @@ ghost use lib.ListN.{length, getD};
 ghost use Rattle.pools.specs.Bits.{free, released};
 ghost use Rattle.rules.specs.Rule.{test, both, each};
 ghost use Rattle.rules.specs.Sound.{linkRule, monitorRule, pairRule, timerRule};
+ghost use Rattle.rules.specs.Host.{Tests};
 ghost use Rattle.sound.specs.Pairs.{PairSeen};
 ghost use Rattle.sound.specs.Standing.{Standing};
 ghost use Rattle.sound.specs.Ties.{endsIn, linkIn, pairIn, monitorIn, timerIn, Inside, LinkSeen};
 ghost use Rattle.tables.specs.Columns.{STATE};
-ghost use Rattle.tables.specs.State.{view, Room};
+ghost use Rattle.tables.specs.State.{RoomWith};
 use crate::standing::PLACES;
 use crate::standing::lives;
+use pools::bits::bit_of;
+use pools::bits::power;
 use tables::Caps;
 use tables::columns::DUE;
 use tables::columns::INTERVAL;
@@ -42,7 +45,7 @@ fn is_marked(seen: &[u64; 64], a: usize, b: usize) -> bool
     requires { ⌜ (a < 64) × (b < 64) ⌝ }
     ensures { λ r. ⌜ r ≡ free (now (seen .entry)) (a * 64 + b) ⌝ }
 {
-    (seen[a] >> b) % 2 == 1
+    bit_of(seen[a], b) == 1
 }
 
 // Bit b of word a is set.
@@ -50,7 +53,7 @@ fn mark(seen: &mut [u64; 64], a: usize, b: usize)
     requires { ⌜ (a < 64) × (b < 64) ⌝ }
     ensures { λ _. ⌜ now (seen .exit) ≡ released (now (seen .entry)) (a * 64 + b) ⌝ }
 {
-    seen[a] = seen[a] | (1 << b);
+    seen[a] = seen[a] | power(b);
 }
 
 // Was the pair of two slots, written one up, not marked yet? It is now.
@@ -98,8 +101,8 @@ fn links_in(row: &[u8; PLACES], one: &[u64], two: &[u64], n: usize) -> bool
 
 // The links, and their pairs.
 pub fn links(t: &[u64], p: &[u8], k: Caps, row: &[u8; PLACES]) -> bool
-    requires { ⌜ Room k (now t) (now p) × Standing (view k (now t) (now p) STATE) (now row) ⌝ }
-    ensures { λ r. ⌜ r ≡ test (both (each (k .links) (λ e. linkRule (view k (now (t .entry)) (now (p .entry))) e)) (each (k .links) (λ e. pairRule (view k (now (t .entry)) (now (p .entry))) e))) ⌝ }
+    requires { ⌜ RoomWith k (λ s. Standing (s STATE) (now row)) (now t) (now p) ⌝ }
+    ensures { λ r. ⌜ Tests k (λ s. both (each (k .links) (λ e. linkRule s e)) (each (k .links) (λ e. pairRule s e))) (now (t .entry)) (now (p .entry)) r ⌝ }
 {
     let one = column(t, p, k, LINK_ONE);
     let two = column(t, p, k, LINK_TWO);
@@ -131,8 +134,8 @@ fn monitors_in(row: &[u8; PLACES], watcher: &[u64], watched: &[u64], age: &[u64]
 }
 
 pub fn monitors(t: &[u64], p: &[u8], k: Caps, row: &[u8; PLACES]) -> bool
-    requires { ⌜ Room k (now t) (now p) × Standing (view k (now t) (now p) STATE) (now row) ⌝ }
-    ensures { λ r. ⌜ r ≡ test (each (k .monitors) (λ e. monitorRule (view k (now (t .entry)) (now (p .entry))) e)) ⌝ }
+    requires { ⌜ RoomWith k (λ s. Standing (s STATE) (now row)) (now t) (now p) ⌝ }
+    ensures { λ r. ⌜ Tests k (λ s. each (k .monitors) (λ e. monitorRule s e)) (now (t .entry)) (now (p .entry)) r ⌝ }
 {
     let watcher = column(t, p, k, WATCHER);
     let watched = column(t, p, k, WATCHED);
@@ -173,8 +176,8 @@ fn timers_in(
 }
 
 pub fn timers(t: &[u64], p: &[u8], k: Caps, row: &[u8; PLACES]) -> bool
-    requires { ⌜ Room k (now t) (now p) × Standing (view k (now t) (now p) STATE) (now row) ⌝ }
-    ensures { λ r. ⌜ r ≡ test (each (k .timers) (λ e. timerRule (view k (now (t .entry)) (now (p .entry))) e)) ⌝ }
+    requires { ⌜ RoomWith k (λ s. Standing (s STATE) (now row)) (now t) (now p) ⌝ }
+    ensures { λ r. ⌜ Tests k (λ s. each (k .timers) (λ e. timerRule s e)) (now (t .entry)) (now (p .entry)) r ⌝ }
 {
     let owner = column(t, p, k, TIMER_OWNER);
     let age = column(t, p, k, TIMER_AGE);

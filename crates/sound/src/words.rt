@@ -1,12 +1,12 @@
 // The bits of a pool past its entries, a word at a time.
-ghost use mathlib.Core.Path.{_≡_};
 ghost use Prim.Native.Nat.{_<_, _*_};
-ghost use Rattle.rules.specs.Rule.{test, each};
+ghost use Rattle.rules.specs.Rule.{each};
 ghost use Rattle.rules.specs.Sound.{bitsRule};
+ghost use Rattle.rules.specs.Host.{Tests};
 ghost use Rattle.sound.specs.Kinds.{wordRule};
 ghost use Rattle.tables.specs.Columns.{REST};
 ghost use Rattle.tables.specs.Sizes.{BIT-WORDS, COLUMN-BITS};
-ghost use Rattle.tables.specs.State.{view, Room};
+ghost use Rattle.tables.specs.State.{Room};
 use pools::bits::WORD_BITS;
 use tables::Caps;
 use tables::words::get;
@@ -14,7 +14,7 @@ use tables::words::get;
 // Word j: all of its bits are entries', or those past the last are 0.
 fn word_ok(t: &[u64], p: &[u8], k: Caps, c: usize, n: usize, j: u64) -> bool
     requires { ⌜ Room k (now t) (now p) × (c < REST) × (j < BIT-WORDS) ⌝ }
-    ensures { λ r. ⌜ r ≡ test (wordRule n (view k (now (t .entry)) (now (p .entry)) c) j) ⌝ }
+    ensures { λ r. ⌜ Tests k (λ s. wordRule n (s c) j) (now (t .entry)) (now (p .entry)) r ⌝ }
 {
     let word = get(t, p, k, c, j);
     let from = WORD_BITS * (j as usize);
@@ -31,7 +31,7 @@ fn word_ok(t: &[u64], p: &[u8], k: Caps, c: usize, n: usize, j: u64) -> bool
 // The bits in column c, which has n entries.
 pub fn words_ok(t: &[u64], p: &[u8], k: Caps, c: usize, n: usize) -> bool
     requires { ⌜ Room k (now t) (now p) × (c < REST) ⌝ }
-    ensures { λ r. ⌜ r ≡ test (each COLUMN-BITS (λ e. bitsRule n (view k (now (t .entry)) (now (p .entry)) c) e)) ⌝ }
+    ensures { λ r. ⌜ Tests k (λ s. each COLUMN-BITS (λ e. bitsRule n (s c) e)) (now (t .entry)) (now (p .entry)) r ⌝ }
 {
     let a = word_ok(t, p, k, c, n, 0);
     let b = word_ok(t, p, k, c, n, 1);

@@ -1,4 +1,4 @@
--- What the actions on a column leave: the other columns, a list, an entry of the payload. Assumes nothing.
+-- What the actions on a column leave: the other columns, a list, an entry of the payload.
 use Prim.Native.Nat.{ℕ, zero, suc, _+_, _-_, _*_, _≤_, _<_}
 use native.Mathlib.Numerals.{add-one}
 use native.Mathlib.Omega.{arith}
@@ -15,10 +15,9 @@ use Rattle.pools.proofs.ListLaws.{length-without}
 use Rattle.tables.specs.Limits.{ENTRY-BYTES}
 use Rattle.tables.specs.declared.Caps.{Caps}
 use Rattle.tables.specs.Columns.{PAYLOAD}
-use Rattle.tables.specs.State.{State, at, head, with-col, poke}
+use Rattle.tables.specs.State.{Sized, State, at, head, poke, with-col}
 use Rattle.tables.specs.Action.{push, closed, pull, write, entry, blank}
 use Rattle.tables.proofs.LoopLaws.{sets-append, sets-same, sets-other, sets-all, sets-within, sets-apart, sets-zeros}
-use Rattle.tables.proofs.ViewLaws.{Sized}
 
 -- ---- one column anew
 module _ (s : State) (c : ℕ) where

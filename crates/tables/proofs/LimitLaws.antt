@@ -1,4 +1,4 @@
--- How the limits of document 01 hang together. Assumes nothing.
+-- How the limits of document 01 hang together.
 use Prim.Native.Nat.{_+_, _*_, _^_, _≤_}
 use mathlib.Core.Path.{_≡_, refl}
 use lib.Dec.{lit≤}

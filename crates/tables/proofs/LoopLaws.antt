@@ -1,4 +1,4 @@
--- What the loops over a lent list turn on: stores from the front, and a list that closes up over one of its words. Assumes nothing.
+-- What the loops over a lent list turn on: stores from the front, and a list that closes up over one of its words.
 use Prim.Native.Nat.{ℕ, zero, suc, _+_, _-_, _≤_, _<_}
 use native.Mathlib.Nat.{le-of-suc-le-suc, zero-add, add-zero, zero-sub, sub-zero}
 use native.Mathlib.Numerals.{add-one}

@@ -1,4 +1,4 @@
--- A buffer as a row of columns: what a store into it and a list written over a part of it do to each column, for any sizes. Assumes nothing.
+-- A buffer as a row of columns: what a store into it and a list written over a part of it do to each column, for any sizes.
 use Prim.Native.Nat.{ℕ, zero, suc, _+_, _-_, _*_, _≤_, _<_}
 use native.Mathlib.Nat.{le-of-suc-le-suc, add-assoc, zero-add, suc-add, zero-mul, suc-mul}
 use native.Mathlib.Omega.{arith}

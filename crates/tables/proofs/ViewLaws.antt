@@ -1,4 +1,4 @@
--- The state in its two buffers: what a store, a part lent and a list written leave, for every column at once. Assumes nothing.
+-- The state in its two buffers: what a store, a part lent and a list written leave, for every column at once.
 use Prim.Native.Nat.{ℕ, zero, suc, _+_, _-_, _*_, _≤_, _<_}
 use native.Mathlib.Nat.{le-of-suc-le-suc, zero-add, add-zero}
 use native.Mathlib.Omega.{arith}
@@ -14,7 +14,7 @@ use Rattle.pools.proofs.ListLaws.{part-take}
 use Rattle.tables.specs.Limits.{ENTRY-BYTES, WORDS-MOST}
 use Rattle.tables.specs.declared.Caps.{Caps}
 use Rattle.tables.specs.Columns.{PAST, PAYLOAD, REST}
-use Rattle.tables.specs.State.{State, with-col, poke, cut, sum, glue, sizes, sizesP, size, start, needed, neededP, view, joinW, joinP, InRange, PastSame, Room, Left}
+use Rattle.tables.specs.State.{InRange, Left, PastSame, Room, Sized, State, cut, glue, joinP, joinW, needed, neededP, poke, size, sizes, sizesP, start, sum, view, with-col}
 use Rattle.tables.specs.Action.{write, blank}
 use Rattle.tables.proofs.LoopLaws.{sets-paste}
 use Rattle.tables.proofs.RowLaws.{cut-put, cut-short, ends-all, cut-full, full-cut, glue-cut, cut-glue, drop-glue, length-glue, cut-past, take-pasted, drop-pasted, cut-paste, cut-first}
@@ -80,12 +80,6 @@ module _ (k : Caps) (w p : List ℕ) where
 pub view-past : (k : Caps) (w p : List ℕ) (c : ℕ) → PAST < c → view k w p c ≡ []
 unfolding view
 view-past k w p c l = rw (le-ltb c PAYLOAD (omega arith)) (cut-past (sizesP k) p (c - PAYLOAD) (omega arith))
-
--- a state that lies in buffers: each column has its size, and there are no more
-pub record Sized (k : Caps) (s : State) : Type 0 where
-  pub words : (c : ℕ) → c < REST → length (s c) ≡ size k c
-  pub bytes : length (s PAYLOAD) ≡ ENTRY-BYTES * k .datas
-  pub past : (c : ℕ) → PAST < c → s c ≡ []
 
 -- the sizes of the columns of the payload buffer, in their row
 sized-bytes : (k : Caps) (s : State) → Sized k s → (d : ℕ) → d < 1 → length (s (PAYLOAD + d)) ≡ getD (sizesP k) d 0

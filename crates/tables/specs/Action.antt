@@ -1,4 +1,4 @@
--- What the calls do to a column: a counted list, free bits, the payload bytes. Assumes nothing.
+-- What the calls do to a column: a counted list, free bits, the payload bytes.
 use Prim.Native.Nat.{ℕ, _+_, _-_, _*_}
 use mathlib.Core.List.{List, _∷_, _++_}
 use lib.ListN.{take, drop, replicate}

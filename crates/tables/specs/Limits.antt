@@ -1,4 +1,4 @@
--- The numbers of document 01 that stand for a limit, each by its meaning: two that are equal today are two names. Assumes nothing.
+-- The numbers of document 01 that stand for a limit, each by its meaning: two that are equal today are two names.
 use Prim.Native.Nat.{ℕ, _+_, _-_, _^_}
 
 -- ---- "Range at start": the most that each pool can have

@@ -1,4 +1,4 @@
--- How many words a column has where no capacity says so, and how many columns there are for each entry of a pool. Assumes nothing.
+-- How many words a column has where no capacity says so, and how many columns there are for each entry of a pool.
 use Prim.Native.Nat.{ℕ, _+_, _-_, _*_}
 use Rattle.pools.specs.Bits.{WORD-BITS}
 use Rattle.tables.specs.Columns.{ACTORS, LINK-ONE, MAIL-FREE, MAIL-OWNER, REST, SENDER, SPARE, STATE, TIMER-OWNER, WATCHER}

@@ -1,11 +1,11 @@
--- The state of a runtime, a column for each number, and how it lies in the two lent buffers. Assumes nothing.
-use Prim.Native.Nat.{ℕ, zero, suc, _+_, _-_, _*_, _≤_}
+-- The state of a runtime, a column for each number, and how it lies in the two lent buffers.
+use Prim.Native.Nat.{ℕ, zero, suc, _+_, _-_, _*_, _≤_, _<_}
 use mathlib.Core.Path.{_≡_}
 use mathlib.Core.Bool.{cond}
 use mathlib.Core.List.{List, [], _∷_, _++_}
 use lib.ListN.{length, getD, set, take, drop, replicate}
 use lib.Dec.{eqb, ltb}
-use Rattle.tables.specs.Columns.{ACTORS, DATAS, LINKS, MAILS, MONITORS, PAYLOAD, REST, TIMERS}
+use Rattle.tables.specs.Columns.{ACTORS, DATAS, LINKS, MAILS, MONITORS, PAST, PAYLOAD, REST, TIMERS}
 use Rattle.tables.specs.Sizes.{BIT-WORDS, BITS, FIXED, HEADS, PER-ACTOR, PER-DATA, PER-LINK, PER-MAIL, PER-MONITOR, PER-TIMER, SPARES}
 use Rattle.tables.specs.Limits.{ENTRY-BYTES, MOST-ACTORS, MOST-DATAS, MOST-LINKS, MOST-MAILS, MOST-MONITORS, MOST-TIMERS}
 use Rattle.tables.specs.declared.Caps.{Caps}
@@ -124,3 +124,30 @@ pub record Room (k : Caps) (w p : List ℕ) : Type 0 where
 pub record Left (k : Caps) (s : State) (w p : List ℕ) : Type 0 where
   pub is : view k w p ≡ s
   pub room : Room k w p
+
+-- ---- what the functions inside ask and promise, of the lists w and p that the buffers hold and the lists w′ and p′ that they leave
+-- Q holds of the state that is held
+abbrev pub Of : Caps → (State → Type 0) → (w p : List ℕ) → Type 0
+Of k Q w p = Q (view k w p)
+
+-- there is room, and Q holds of the state that is held
+abbrev pub RoomWith : Caps → (State → Type 0) → (w p : List ℕ) → Type 0
+RoomWith k Q w p = Room k w p × Of k Q w p
+
+-- the answer is f of the state that is held
+abbrev pub Reads : {A : Type 0} → Caps → (State → A) → (w p : List ℕ) → A → Type 0
+Reads k f w p r = r ≡ f (view k w p)
+
+-- the state that is left is f of the one that was held
+abbrev pub Makes : Caps → (State → State) → (w p w′ p′ : List ℕ) → Type 0
+Makes k f w p w′ p′ = Left k (f (view k w p)) w′ p′
+
+-- the answer is f of the state that was held, and the one that is left is g of it
+abbrev pub Does : {A : Type 0} → Caps → (State → A) → (State → State) → (w p : List ℕ) → A → (w′ p′ : List ℕ) → Type 0
+Does k f g w p r w′ p′ = Reads k f w p r × Makes k g w p w′ p′
+
+-- a state that lies in buffers: each column has its size, and there are no more
+pub record Sized (k : Caps) (s : State) : Type 0 where
+  pub words : (c : ℕ) → c < REST → length (s c) ≡ size k c
+  pub bytes : length (s PAYLOAD) ≡ ENTRY-BYTES * k .datas
+  pub past : (c : ℕ) → PAST < c → s c ≡ []

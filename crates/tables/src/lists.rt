@@ -4,7 +4,7 @@ ghost use Prim.Native.Nat.{_<_, _≤_};
 ghost use lib.ListN.{length};
 ghost use Rattle.tables.specs.Columns.{REST};
 ghost use Rattle.tables.specs.Limits.{SAFE};
-ghost use Rattle.tables.specs.State.{head, with-col, view, size, Room, Left};
+ghost use Rattle.tables.specs.State.{head, with-col, size, Room, RoomWith, Makes};
 ghost use Rattle.tables.specs.Action.{closed, push, pull};
 use crate::Caps;
 use crate::layout::place_of;
@@ -13,8 +13,8 @@ use crate::words::put;
 
 // v joins the tail.
 pub fn push(t: &mut [u64], p: &[u8], k: Caps, list: usize, count: usize, v: u64)
-    requires { ⌜ Room k (now t) (now p) × (list < REST) × (count < REST) × (head (view k (now t) (now p)) count ≤ SAFE) ⌝ }
-    ensures { λ _. ⌜ Left k (push (view k (now (t .entry)) (now (p .entry))) list count v) (now (t .exit)) (now (p .entry)) ⌝ }
+    requires { ⌜ RoomWith k (λ s. (list < REST) × (count < REST) × (head s count ≤ SAFE)) (now t) (now p) ⌝ }
+    ensures { λ _. ⌜ Makes k (λ s. push s list count v) (now (t .entry)) (now (p .entry)) (now (t .exit)) (now (p .entry)) ⌝ }
 {
     let n = get(t, p, k, count, 0);
     put(t, p, k, list, n, v);
@@ -38,7 +38,7 @@ fn close_up(q: &mut [u64], j: usize)
 // The j-th of the n words of column c leaves.
 fn close_column(t: &mut [u64], p: &[u8], k: Caps, c: usize, n: usize, j: usize)
     requires { ⌜ Room k (now t) (now p) × (c < REST) × (n ≤ size k c) × (j < n) ⌝ }
-    ensures { λ _. ⌜ Left k (with-col (view k (now (t .entry)) (now (p .entry))) c (closed n j (view k (now (t .entry)) (now (p .entry)) c))) (now (t .exit)) (now (p .entry)) ⌝ }
+    ensures { λ _. ⌜ Makes k (λ s. with-col s c (closed n j (s c))) (now (t .entry)) (now (p .entry)) (now (t .exit)) (now (p .entry)) ⌝ }
 {
     let place = place_of(k, c);
     let from = place.from;
@@ -48,8 +48,8 @@ fn close_column(t: &mut [u64], p: &[u8], k: Caps, c: usize, n: usize, j: usize)
 
 // The j-th of a list leaves it.
 pub fn pull(t: &mut [u64], p: &[u8], k: Caps, list: usize, count: usize, j: u64)
-    requires { ⌜ Room k (now t) (now p) × (list < REST) × (count < REST) × (j < head (view k (now t) (now p)) count) × (head (view k (now t) (now p)) count ≤ size k list) ⌝ }
-    ensures { λ _. ⌜ Left k (pull (view k (now (t .entry)) (now (p .entry))) list count j) (now (t .exit)) (now (p .entry)) ⌝ }
+    requires { ⌜ RoomWith k (λ s. (list < REST) × (count < REST) × (j < head s count) × (head s count ≤ size k list)) (now t) (now p) ⌝ }
+    ensures { λ _. ⌜ Makes k (λ s. pull s list count j) (now (t .entry)) (now (p .entry)) (now (t .exit)) (now (p .entry)) ⌝ }
 {
     let n = get(t, p, k, count, 0);
     close_column(t, p, k, list, n as usize, j as usize);

@@ -5,7 +5,7 @@ ghost use lib.ListN.{length, replicate};
 ghost use lib.Seq.{sets};
 ghost use Rattle.tables.specs.Columns.{PAYLOAD};
 ghost use Rattle.tables.specs.Limits.{ENTRY-BYTES};
-ghost use Rattle.tables.specs.State.{at, view, Room, Left};
+ghost use Rattle.tables.specs.State.{at, Room, Reads, Makes};
 ghost use Rattle.tables.specs.Action.{write, blank};
 use crate::Caps;
 use crate::limits::ENTRY_BYTES;
@@ -37,7 +37,7 @@ pub fn zero(q: &mut [u8], from: usize, n: usize)
 // The bytes of m go into entry d, from its byte i on.
 pub fn write(t: &[u64], p: &mut [u8], k: Caps, d: u64, i: usize, m: &[u8])
     requires { ⌜ Room k (now t) (now p) × (d < k .datas) × (i + length (now m) ≤ ENTRY-BYTES) ⌝ }
-    ensures { λ _. ⌜ Left k (write (view k (now (t .entry)) (now (p .entry))) d i (now (m .entry))) (now (t .entry)) (now (p .exit)) ⌝ }
+    ensures { λ _. ⌜ Makes k (λ s. write s d i (now (m .entry))) (now (t .entry)) (now (p .entry)) (now (t .entry)) (now (p .exit)) ⌝ }
 {
     copy(p, ENTRY_BYTES * (d as usize) + i, m);
 }
@@ -45,7 +45,7 @@ pub fn write(t: &[u64], p: &mut [u8], k: Caps, d: u64, i: usize, m: &[u8])
 // All bytes of entry d are zero.
 pub fn blank(t: &[u64], p: &mut [u8], k: Caps, d: u64)
     requires { ⌜ Room k (now t) (now p) × (d < k .datas) ⌝ }
-    ensures { λ _. ⌜ Left k (blank (view k (now (t .entry)) (now (p .entry))) d) (now (t .entry)) (now (p .exit)) ⌝ }
+    ensures { λ _. ⌜ Makes k (λ s. blank s d) (now (t .entry)) (now (p .entry)) (now (t .entry)) (now (p .exit)) ⌝ }
 {
     zero(p, ENTRY_BYTES * (d as usize), ENTRY_BYTES);
 }
@@ -53,7 +53,7 @@ pub fn blank(t: &[u64], p: &mut [u8], k: Caps, d: u64)
 // Byte i of entry d; 0 past the area.
 pub fn byte(t: &[u64], p: &[u8], k: Caps, d: u64, i: usize) -> u64
     requires { ⌜ Room k (now t) (now p) × (i < ENTRY-BYTES) ⌝ }
-    ensures { λ r. ⌜ r ≡ at (view k (now (t .entry)) (now (p .entry))) PAYLOAD (ENTRY-BYTES * d + i) ⌝ }
+    ensures { λ r. ⌜ Reads k (λ s. at s PAYLOAD (ENTRY-BYTES * d + i)) (now (t .entry)) (now (p .entry)) r ⌝ }
 {
     if (d as usize) < k.datas {
         return p[ENTRY_BYTES * (d as usize) + i] as u64;

@@ -1,8 +1,7 @@
 // A column, and a word of it read and written. The last two are total: outside a column a read gives 0 and a write does nothing.
-ghost use mathlib.Core.Path.{_≡_};
 ghost use Prim.Native.Nat.{_<_};
 ghost use Rattle.tables.specs.Columns.{REST};
-ghost use Rattle.tables.specs.State.{at, poke, view, Room, Left};
+ghost use Rattle.tables.specs.State.{at, poke, Room, Reads, Makes};
 use crate::Caps;
 use crate::layout::place_of;
 use crate::layout::word;
@@ -10,7 +9,7 @@ use crate::layout::word;
 // Column c.
 pub fn column<'a>(t: &'a [u64], p: &[u8], k: Caps, c: usize) -> &'a [u64]
     requires { ⌜ Room k (now t) (now p) × (c < REST) ⌝ }
-    ensures { λ r. ⌜ now r ≡ view k (now (t .entry)) (now (p .entry)) c ⌝ }
+    ensures { λ r. ⌜ Reads k (λ s. s c) (now (t .entry)) (now (p .entry)) (now r) ⌝ }
 {
     let place = place_of(k, c);
     let from = place.from;
@@ -21,7 +20,7 @@ pub fn column<'a>(t: &'a [u64], p: &[u8], k: Caps, c: usize) -> &'a [u64]
 // Word i of column c.
 pub fn get(t: &[u64], p: &[u8], k: Caps, c: usize, i: u64) -> u64
     requires { ⌜ Room k (now t) (now p) × (c < REST) ⌝ }
-    ensures { λ r. ⌜ r ≡ at (view k (now (t .entry)) (now (p .entry))) c i ⌝ }
+    ensures { λ r. ⌜ Reads k (λ s. at s c i) (now (t .entry)) (now (p .entry)) r ⌝ }
 {
     word(column(t, p, k, c), i as usize) as u64
 }
@@ -29,7 +28,7 @@ pub fn get(t: &[u64], p: &[u8], k: Caps, c: usize, i: u64) -> u64
 // Word i of column c is v.
 pub fn put(t: &mut [u64], p: &[u8], k: Caps, c: usize, i: u64, v: u64)
     requires { ⌜ Room k (now t) (now p) × (c < REST) ⌝ }
-    ensures { λ _. ⌜ Left k (poke (view k (now (t .entry)) (now (p .entry))) c i v) (now (t .exit)) (now (p .entry)) ⌝ }
+    ensures { λ _. ⌜ Makes k (λ s. poke s c i v) (now (t .entry)) (now (p .entry)) (now (t .exit)) (now (p .entry)) ⌝ }
 {
     let place = place_of(k, c);
     let from = place.from;

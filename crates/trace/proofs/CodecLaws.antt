@@ -1,4 +1,4 @@
--- Writing and reading are inverse both ways, for every form. Assumes nothing.
+-- Writing and reading are inverse both ways, for every form.
 use Prim.Native.Nat.{ℕ, zero, suc, _+_, _-_, _*_, _^_, _<_, _≤_}
 use mathlib.Core.Path.{_≡_, refl, sym, ap, _∙_}
 use mathlib.Core.Bool.{true}
@@ -11,14 +11,14 @@ use borrow.Author.Tests.{eqb-true, eq-eqb}
 use Rattle.pools.proofs.BoolLaws.{and-left, and-right, and-true}
 use Rattle.records.specs.Bytes.{Bytes, le, ofLe}
 use Rattle.records.proofs.ByteLaws.{bytes-drop, bytes-take, le-ofLe, length-le, ofLe-le}
-use Rattle.trace.specs.Codec.{Form, Note, Small, Stated, Whole, backOf, body, bytes, extent, formed, frontOf, kindOf, note, numbers, textLength, textOf, words}
+use Rattle.trace.specs.Codec.{Form, Note, Small, Stated, Whole, backOf, body, bytes, extent, formed, frontOf, kindOf, note, numbersIn, textLength, textOf, words}
 
 pub length-words : (xs : List ℕ) → length (words xs) ≡ 8 * length xs
 length-words [] = refl
 length-words (x ∷ xs) = length-append (le 8 x) (words xs) ∙ omega (arith, length-le 8 x, length-words xs)
 
 -- numbers are read back
-pub numbers-words : (k : ℕ) (xs ys : List ℕ) → length xs ≡ k → Small xs → numbers k (words xs ++ ys) ≡ xs
+pub numbers-words : (k : ℕ) (xs ys : List ℕ) → length xs ≡ k → Small xs → numbersIn k (words xs ++ ys) ≡ xs
 numbers-words zero [] ys e s = refl
 numbers-words zero (x ∷ xs) ys e s = cc
 numbers-words (suc k) [] ys e s = cc
@@ -26,7 +26,7 @@ numbers-words (suc k) (x ∷ xs) ys e s =
     rw (append-assoc (le 8 x) (words xs) ys, take-at (le 8 x) (words xs ++ ys) 8 (length-le 8 x), drop-at (le 8 x) (words xs ++ ys) 8 (length-le 8 x), ofLe-le 8 x (s .0), numbers-words k xs ys (omega arith) (s .1))
 
 -- bytes are those of the numbers that are read from them
-pub words-numbers : (k : ℕ) (bs : List ℕ) → Bytes bs → 8 * k ≤ length bs → words (numbers k bs) ≡ take (8 * k) bs
+pub words-numbers : (k : ℕ) (bs : List ℕ) → Bytes bs → 8 * k ≤ length bs → words (numbersIn k bs) ≡ take (8 * k) bs
 words-numbers zero bs b h = refl
 words-numbers (suc k) bs b h =
     let d : length (drop 8 bs) ≡ length bs - 8 = length-drop 8 bs in
@@ -67,7 +67,7 @@ module _ (f : Form) (n : Note) (h : Whole f n) where
   back-bytes : backOf f (bytes n) ≡ n .back
   back-bytes =
       rw (front-bytes f n (h .stated), rest f n (h .stated), drop-at (n .text) (words (n .back)) (textLength f (n .front)) (h .stated .texts))
-      (ap (numbers (f .aft)) (sym (append-nil (words (n .back)))) ∙ numbers-words (f .aft) (n .back) [] (h .backs) (h .smallBack))
+      (ap (numbersIn (f .aft)) (sym (append-nil (words (n .back)))) ∙ numbers-words (f .aft) (n .back) [] (h .backs) (h .smallBack))
 
   -- READING WHAT WAS WRITTEN gives it back
   pub note-bytes : note f (bytes n) ≡ n

@@ -1,4 +1,4 @@
--- Small traces, byte by byte, and their verdicts, by computation. Assumes nothing.
+-- Small traces, byte by byte, and their verdicts, by computation.
 use Prim.Native.Nat.{ℕ}
 use mathlib.Core.Path.{_≡_, refl}
 use mathlib.Core.List.{List, [], _∷_, _++_}
@@ -12,7 +12,7 @@ use Rattle.rules.specs.Host.{fresh, freed, stated, zeroed}
 use Rattle.rules.specs.Trim.{newly}
 use Rattle.trace.specs.Codec.{bytes, formed}
 use Rattle.trace.specs.Kinds.{callOf, encode, rowOf}
-use Rattle.trace.specs.Verdict.{judge, said, verdict}
+use Rattle.trace.specs.Verdict.{judge, rightOne, verdict}
 use Rattle.trace.specs.Verdict.Verdict.{ok, bad, cut}
 
 -- eight bytes, the low two of them given
@@ -54,72 +54,72 @@ none = refl
 
 -- half a length
 pub half : verdict (74 ∷ []) ≡ cut 0
-unfolding judge said formed callOf rowOf
+unfolding judge rightOne formed callOf rowOf
 half = refl
 
 -- a kind that is not known
 pub strange : verdict (4 ∷ 0 ∷ 99 ∷ 0 ∷ 1 ∷ 2 ∷ []) ≡ bad 0
-unfolding judge said formed callOf rowOf
+unfolding judge rightOne formed callOf rowOf
 strange = refl
 
 -- the same, cut: "`cut N`, tested first"
 pub strange-cut : verdict (4 ∷ 0 ∷ 99 ∷ 0 ∷ 1 ∷ []) ≡ cut 0
-unfolding judge said formed callOf rowOf
+unfolding judge rightOne formed callOf rowOf
 strange-cut = refl
 
 -- "a first record that isn't a successful start gives `bad 0`"
 pub no-start : verdict YIELD ≡ bad 0
-unfolding judge said formed callOf rowOf
+unfolding judge rightOne formed callOf rowOf
 no-start = refl
 
 pub refused-first : verdict REFUSED ≡ bad 0
-unfolding judge said formed callOf rowOf encode bytes le
+unfolding judge rightOne formed callOf rowOf encode bytes le
 refused-first = refl
 
 -- nor is one on too few bytes
 pub few-bytes : verdict (STARTS 0 1 0) ≡ bad 0
-unfolding judge said formed callOf rowOf encode bytes le
+unfolding judge rightOne formed callOf rowOf encode bytes le
 few-bytes = refl
 
 -- ---- after a start
 pub begins : verdict START ≡ ok 1
-unfolding judge said formed callOf rowOf encode bytes le
+unfolding judge rightOne formed callOf rowOf encode bytes le
 begins = refl
 
 -- and the first spawn, whose id is 64
 pub spawns : verdict (START ++ SPAWN 64) ≡ ok 2
-unfolding judge said formed callOf rowOf encode bytes le newly fresh freed stated zeroed with-col poke ruled lowest ready push
+unfolding judge rightOne formed callOf rowOf encode bytes le newly fresh freed stated zeroed with-col poke ruled lowest ready push
 spawns = refl
 
 -- an answer that differs
 pub not-65 : verdict (START ++ SPAWN 65) ≡ bad 1
-unfolding judge said formed callOf rowOf encode bytes le newly fresh freed stated zeroed with-col poke ruled lowest ready push
+unfolding judge rightOne formed callOf rowOf encode bytes le newly fresh freed stated zeroed with-col poke ruled lowest ready push
 not-65 = refl
 
 -- the last seven bytes are not there
 pub spawn-cut : verdict (START ++ (26 ∷ 0 ∷ 17 ∷ 0 ∷ (one 1 ++ (one 0 ++ (64 ∷ []))))) ≡ cut 1
-unfolding judge said formed callOf rowOf encode bytes le
+unfolding judge rightOne formed callOf rowOf encode bytes le
 spawn-cut = refl
 
 -- a length of 0
 pub no-length : verdict (START ++ (0 ∷ 0 ∷ [])) ≡ bad 1
-unfolding judge said formed callOf rowOf encode bytes le
+unfolding judge rightOne formed callOf rowOf encode bytes le
 no-length = refl
 
 -- a later start that is refused
 pub refused-later : verdict (START ++ REFUSED) ≡ ok 2
-unfolding judge said formed callOf rowOf encode bytes le
+unfolding judge rightOne formed callOf rowOf encode bytes le
 refused-later = refl
 
 -- a payload of three bytes; one of 253, by its length alone; one of 3 whose bytes are not there
 pub tells : verdict (START ++ NOTIFY 37 3 (7 ∷ 8 ∷ 9 ∷ [])) ≡ ok 2
-unfolding judge said formed callOf rowOf encode bytes le newly fresh freed stated zeroed with-col poke ruled
+unfolding judge rightOne formed callOf rowOf encode bytes le newly fresh freed stated zeroed with-col poke ruled
 tells = refl
 
 pub tells-long : verdict (START ++ NOTIFY 34 253 []) ≡ ok 2
-unfolding judge said formed callOf rowOf encode bytes le newly fresh freed stated zeroed with-col poke ruled
+unfolding judge rightOne formed callOf rowOf encode bytes le newly fresh freed stated zeroed with-col poke ruled
 tells-long = refl
 
 pub tells-none : verdict (START ++ NOTIFY 34 3 []) ≡ bad 1
-unfolding judge said formed callOf rowOf encode bytes le
+unfolding judge rightOne formed callOf rowOf encode bytes le
 tells-none = refl

@@ -1,4 +1,4 @@
--- Writing and reading are inverse both ways, no two calls have the same record, nothing else reads as one. Assumes nothing.
+-- Writing and reading are inverse both ways, no two calls have the same record, nothing else reads as one.
 use Prim.Native.Nat.{ℕ, zero, suc, _+_, _-_, _^_, _<_}
 use mathlib.Core.Path.{_≡_, sym, ap, _∙_}
 use mathlib.Core.Bool.{true}
@@ -18,7 +18,7 @@ use Rattle.tables.specs.declared.Caps.{Caps}
 use Rattle.tables.specs.Limits.{PAYLOAD-MOST}
 use Rattle.tables.specs.State.{State}
 use Rattle.rules.specs.Run.{step}
-use Rattle.trace.specs.Codec.{Small, bytes, formed, kindOf, note, numbers, textOf}
+use Rattle.trace.specs.Codec.{Small, bytes, formed, kindOf, note, numbersIn, textOf}
 use Rattle.trace.specs.Kinds.{Asked, FIRST, Fits, Row, Signed, abridged, asked, callOf, encode, lengthRight, noRow, nth, opening, readAs, rowOf, rows, signed, stood, unsigned}
 use Rattle.trace.specs.Kinds.Asked.{unknown, begins, asks}
 use Rattle.trace.specs.Writing.{Passes, done}
@@ -53,11 +53,11 @@ small-number (suc k) (x ∷ bs) b =
     let h : x < 256 = b 0 in
     rw (pow-suc 256 k) (omega arith)
 
-small-numbers : (k : ℕ) (bs : List ℕ) → Bytes bs → Small (numbers k bs)
+small-numbers : (k : ℕ) (bs : List ℕ) → Bytes bs → Small (numbersIn k bs)
 small-numbers zero bs b = record {}
 small-numbers (suc k) bs b = (small-number 8 bs b, small-numbers k (drop 8 bs) (bytes-drop 8 bs b))
 
-fronts : (k : ℕ) (bs : List ℕ) → Bytes bs → Small (numbers k (drop 4 bs))
+fronts : (k : ℕ) (bs : List ℕ) → Bytes bs → Small (numbersIn k (drop 4 bs))
 fronts k bs b = small-numbers k (drop 4 bs) (bytes-drop 4 bs b)
 
 signed-small : (x : ℕ) → x < 256 ^ 8 → (unsigned (signed x) < 256 ^ 8) × Signed (signed x)
@@ -81,24 +81,24 @@ data AllPass : List Row → Type 0 where
 notify-passes : RowPasses (rowOf 20)
 unfolding rowOf
 notify-passes bs b h =
-    let f = fronts 3 bs b in
+    let (target, (tag, (size, _))) = fronts 3 bs b in
     let l = drop 24 (drop 4 bs) in
-    let n = nth (numbers 3 (drop 4 bs)) 2 in
+    let n = nth (numbersIn 3 (drop 4 bs)) 2 in
     let e₁ : length (drop 4 bs) ≡ length bs - 4 = length-drop 4 bs in
     let e₂ : length l ≡ length (drop 4 bs) - 24 = length-drop 24 (drop 4 bs) in
     let e : length (stood n (textOf (rowOf 20 .shape) bs)) ≡ n =
     split (leb n PAYLOAD-MOST)
     (λ q. let e₃ : length bs ≡ 4 + (24 + (n + 8)) = rw q at (long (rowOf 20 .shape) bs b h) in rw q (length-take-le n l (omega arith)))
     (λ q. rw q (length-replicate {A = ℕ} n 0)) in
-    record { small = (f .0, (f .1 .0, (rw e (f .1 .1 .0), record {}))); signs = record {} }
+    record { small = (target, (tag, (rw e size, record {}))); signs = record {} }
 
 -- a wait, signed
 receive-passes : RowPasses (rowOf 21)
 unfolding rowOf
 receive-passes bs b h =
-    let f = fronts 4 bs b in
-    let g = signed-small (nth (numbers 4 (drop 4 bs)) 3) (f .1 .1 .1 .0) in
-    record { small = (f .0, (f .1 .0, (f .1 .1 .0, (g .0, record {})))); signs = (g .1, record {}) }
+    let (sender, (class, (tag, (wait, _)))) = fronts 4 bs b in
+    let g = signed-small (nth (numbersIn 4 (drop 4 bs)) 3) wait in
+    record { small = (sender, (class, (tag, (g .0, record {})))); signs = (g .1, record {}) }
 
 -- the table
 all-pass : AllPass rows

@@ -1,4 +1,4 @@
--- Each call is read back from its record. Assumes nothing.
+-- Each call is read back from its record.
 use Prim.Native.Nat.{ℕ, _+_, _-_, _*_, _^_, _<_, _≤_}
 use mathlib.Core.Path.{_≡_, refl, ap, _∙_}
 use mathlib.Core.Bool.{cond, true}

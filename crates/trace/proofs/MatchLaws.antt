@@ -1,4 +1,4 @@
--- A record is compared where it stands, number by number. Assumes nothing.
+-- A record is compared where it stands, number by number.
 use Prim.Native.Nat.{ℕ, zero, suc, _+_, _-_, _*_, _/_, _%_, _^_, _<_, _≤_}
 use mathlib.Core.Path.{_≡_, refl, sym, ap, _∙_}
 use mathlib.Core.Bool.{Bool, true, false, _&&_}

@@ -1,4 +1,4 @@
--- What the functions on numbers and bytes cite. Assumes nothing.
+-- What the functions on numbers and bytes cite.
 use Prim.Native.Nat.{ℕ, zero, suc, _+_, _-_, _*_, _/_, _%_, _^_, _<_, _≤_}
 use mathlib.Core.Path.{_≡_, refl, sym, ap, _∙_}
 use mathlib.Core.Bool.{Bool, true, false, _&&_}

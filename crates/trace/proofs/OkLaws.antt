@@ -1,4 +1,4 @@
--- What `ok` means. Assumes nothing.
+-- What `ok` means.
 use Prim.Native.Nat.{ℕ, zero, suc, _+_, _-_, _≤_}
 use mathlib.Core.Path.{_≡_, refl, sym, ap, subst, _∙_}
 use mathlib.Core.Bool.{true, false}
@@ -17,7 +17,7 @@ use Rattle.rules.specs.Story.{capsFrom}
 use Rattle.rules.specs.Trim.{newly}
 use Rattle.trace.specs.Kinds.{Asked, asked, encode}
 use Rattle.trace.specs.Kinds.Asked.{unknown, begins, asks}
-use Rattle.trace.specs.Verdict.{Ending, Said, Stand, Taken, Traced, Verdict, begun, canBegin, ends, extentOf, goesOn, left, matched, said, same, taken, unbegun, verdict, verdictFrom}
+use Rattle.trace.specs.Verdict.{Ending, Said, Stand, Taken, Traced, Verdict, begun, canBegin, ends, extentOf, goesOn, left, matched, rightOne, same, judged, unbegun, verdict, verdictFrom}
 use Rattle.trace.specs.Verdict.Said.{wrong, right}
 use Rattle.trace.specs.Verdict.Stand.{before, stands}
 use Rattle.trace.specs.Verdict.Taken.{stop, go}
@@ -48,8 +48,8 @@ record Lines (A : Type 0) (u b : Stand) (bs : List ℕ) (n : ℕ) : Type 0 where
   leaves : left traced ≡ u
 
 -- what is said to be right is a line of the rules
-said-line : (A : Type 0) (u : Stand) (c : Asked) (b : Stand) (r bs : List ℕ) (t : Stand) (n : ℕ) → (A → Passed c) → said c b ≡ right r t → Lines A u t bs n → Lines A u b (r ++ bs) (suc n)
-unfolding said Fitting left
+said-line : (A : Type 0) (u : Stand) (c : Asked) (b : Stand) (r bs : List ℕ) (t : Stand) (n : ℕ) → (A → Passed c) → rightOne c b ≡ right r t → Lines A u t bs n → Lines A u b (r ++ bs) (suc n)
+unfolding rightOne Fitting left
 said-line A u unknown b r bs t n h e x = not-right e
 said-line A u (asks o) before r bs t n h e x = not-right e
 said-line A u (asks o) (stands k s) r bs t n h e x =
@@ -59,7 +59,7 @@ said-line A u (asks o) (stands k s) r bs t n h e x =
     rw (← p) (record { traced = Traced.called o (y .traced); fitting = λ a. (h a, y .fitting a); leaves = y .leaves })
 said-line A u (begins w p z) b r bs t n h e x = split (canBegin (capsFrom z) w p) (λ q. done q (was-done b q e)) (λ q. not-done b q e)
   where
-    was-done : (b : Stand) → canBegin (capsFrom z) w p ≡ true → said (begins w p z) b ≡ right r t → begun w p z ≡ right r t
+    was-done : (b : Stand) → canBegin (capsFrom z) w p ≡ true → rightOne (begins w p z) b ≡ right r t → begun w p z ≡ right r t
     was-done before q f = rw q at f
     was-done (stands k s) q f = rw q at f
 
@@ -70,7 +70,7 @@ said-line A u (begins w p z) b r bs t n h e x = split (canBegin (capsFrom z) w p
         let y : Lines A u (stands (capsFrom z) (newly (capsFrom z))) bs n = rw j x in
         rw (← i) (record { traced = Traced.started w p z q (y .traced); fitting = λ a. (h a, y .fitting a); leaves = y .leaves })
 
-    not-done : (b : Stand) → canBegin (capsFrom z) w p ≡ false → said (begins w p z) b ≡ right r t → Lines A u b (r ++ bs) (suc n)
+    not-done : (b : Stand) → canBegin (capsFrom z) w p ≡ false → rightOne (begins w p z) b ≡ right r t → Lines A u b (r ++ bs) (suc n)
     not-done before q f = not-right (rw q at f)
     not-done (stands k s) q f =
         let g : unbegun w p z (stands k s) ≡ right r t = rw q at f in
@@ -87,8 +87,8 @@ matched-go (right b u) r t e =
     (λ q. let f : go u ≡ go t = rw q at e in let g : u ≡ t = cc in let h = same-true b r q in cc)
     (λ q. let f : stop ≡ go t = rw q at e in absurd (let z : _≡_ {A = ℕ} 0 1 = cc in omega arith))
 
-taken-line : (A : Type 0) (u b : Stand) (r bs : List ℕ) (t : Stand) (n : ℕ) → (A → Bytes r) → taken b r ≡ go t → Lines A u t bs n → Lines A u b (r ++ bs) (suc n)
-taken-line A u b r bs t n h e x = said-line A u (asked r) b r bs t n (λ a. asked-passes r (h a)) (matched-go (said (asked r) b) r t e) x
+taken-line : (A : Type 0) (u b : Stand) (r bs : List ℕ) (t : Stand) (n : ℕ) → (A → Bytes r) → judged b r ≡ go t → Lines A u t bs n → Lines A u b (r ++ bs) (suc n)
+taken-line A u b r bs t n h e x = said-line A u (asked r) b r bs t n (λ a. asked-passes r (h a)) (matched-go (rightOne (asked r) b) r t e) x
 
 -- ---- all of them
 -- from record i on: lines of the rules, and then what the verdict says
@@ -109,7 +109,7 @@ halts A i b bs v e =
     record { count = 0; front = []; rest = bs; after = b; is = refl; lines = record { traced = Traced.over; fitting = λ a. record {}; leaves = refl }; ending = subst (λ (j : ℕ). Ending b bs j v) z e }
 
 -- one more
-more : (A : Type 0) (i : ℕ) (b : Stand) (r bs : List ℕ) (t : Stand) (v : Verdict) → (A → Bytes r) → taken b r ≡ go t → Read A (suc i) t bs v → Read A i b (r ++ bs) v
+more : (A : Type 0) (i : ℕ) (b : Stand) (r bs : List ℕ) (t : Stand) (v : Verdict) → (A → Bytes r) → judged b r ≡ go t → Read A (suc i) t bs v → Read A i b (r ++ bs) v
 more A i b r bs t v h e x =
     let z : suc i + x .count ≡ i + suc (x .count) = omega arith in
     record {
@@ -123,7 +123,7 @@ more A i b r bs t v h e x =
     }
 
 -- the next record is whole: it is right or it is not
-next : (A : Type 0) (i : ℕ) (b : Stand) (bs : List ℕ) → (length bs ≡ 0 → ⊥) → ends bs ≡ false → (A → Bytes bs) → (x : Taken) → taken b (take (extentOf bs) bs) ≡ x →
+next : (A : Type 0) (i : ℕ) (b : Stand) (bs : List ℕ) → (length bs ≡ 0 → ⊥) → ends bs ≡ false → (A → Bytes bs) → (x : Taken) → judged b (take (extentOf bs) bs) ≡ x →
     ((t : Stand) → Read A (suc i) t (drop (extentOf bs) bs) (verdictFrom (suc i) t (drop (extentOf bs) bs))) →
     Read A i b bs (goesOn x (λ t. verdictFrom (suc i) t (drop (extentOf bs) bs)) (bad i))
 next A i b bs u p a stop e f = halts A i b bs (bad i) (Ending.amiss u p e)
@@ -141,7 +141,7 @@ one-read A i b bs a f =
     (λ q. let u = eqb-false (length bs) 0 q in
     split (ends bs)
     (λ p. subst (Read A i b bs) (sym (from-cut i b bs u p)) (halts A i b bs (cut i) (Ending.inside u p)))
-    (λ p. subst (Read A i b bs) (sym (from-next i b bs u p)) (next A i b bs u p a (taken b (take (extentOf bs) bs)) refl f)))
+    (λ p. subst (Read A i b bs) (sym (from-next i b bs u p)) (next A i b bs u p a (judged b (take (extentOf bs) bs)) refl f)))
 
 shorter : (m : ℕ) (bs : List ℕ) → length bs ≤ suc m → length (drop (extentOf bs) bs) ≤ m
 shorter m bs h = let d : length (drop (extentOf bs) bs) ≡ length bs - extentOf bs = length-drop (extentOf bs) bs in omega arith

@@ -1,4 +1,4 @@
--- What a record asks for, by its kind: what a reader needs that looks at the kind first, and then at numbers at their places. Assumes nothing.
+-- What a record asks for, by its kind: what a reader needs that looks at the kind first, and then at numbers at their places.
 use Prim.Native.Nat.{ℕ, zero, suc, _+_, _-_, _*_, _<_, _≤_}
 use mathlib.Core.Path.{_≡_, sym, ap, _∙_}
 use mathlib.Core.Bool.{true, false}
@@ -11,13 +11,13 @@ use borrow.Author.Tests.{eqb-true, le-leb, leb-false, leb-true, lt-leb}
 use Rattle.ledger.specs.Call.{Op}
 use Rattle.pools.proofs.BoolLaws.{and-left, split}
 use Rattle.records.specs.Bytes.{field}
-use Rattle.trace.specs.Codec.{Form, extent, formed, frontOf, kindOf, numbers}
+use Rattle.trace.specs.Codec.{Form, extent, formed, frontOf, kindOf, numbersIn}
 use Rattle.trace.specs.Kinds.{Asked, FIRST, Row, asked, callOf, lengthRight, noRow, nth, readAs, rowOf, rows}
 use Rattle.trace.specs.Kinds.Asked.{unknown, asks}
 
 -- ---- numbers
 -- number i of those that begin at a place is the field of eight bytes there
-pub nth-number : (k i at : ℕ) (r : List ℕ) → i < k → nth (numbers k (drop at r)) i ≡ field 8 (at + 8 * i) r
+pub nth-number : (k i at : ℕ) (r : List ℕ) → i < k → nth (numbersIn k (drop at r)) i ≡ field 8 (at + 8 * i) r
 nth-number zero i at r h = absurd (omega arith)
 nth-number (suc k) zero at r h = let e : at + 8 * 0 ≡ at = omega arith in rw e
 nth-number (suc k) (suc i) at r h =

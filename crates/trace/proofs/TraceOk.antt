@@ -1,4 +1,4 @@
--- A trace that was written from a successful start gives `ok`. Assumes nothing.
+-- A trace that was written from a successful start gives `ok`.
 use Prim.Native.Nat.{ℕ, suc, _+_, _-_, _*_, _^_, _<_, _≤_}
 use mathlib.Core.Path.{_≡_, refl, sym, ap, subst, _∙_}
 use mathlib.Core.Bool.{true, false, _&&_}
@@ -25,17 +25,17 @@ use Rattle.rules.specs.Host.{canStart, fresh}
 use Rattle.rules.specs.Run.{afterwards, lines, step}
 use Rattle.rules.specs.Story.{Meets, Story, capsFrom, line}
 use Rattle.rules.specs.Trim.{newly, trim}
-use Rattle.rules.proofs.Good.{Good}
-use Rattle.rules.proofs.RuleLaws.{reads}
-use Rattle.rules.proofs.SoundLaws.{range-of}
-use Rattle.rules.proofs.Start.{fresh-good}
-use Rattle.rules.proofs.StoryPlays.{Hold, did-start, start-holds, story-plays}
+use Rattle.rules.specs.Good.{Good}
+use Rattle.rules.proofs.Kept.Rules.{reads}
+use Rattle.rules.proofs.Kept.Sound.{range-of}
+use Rattle.rules.proofs.Kept.Start.{fresh-good}
+use Rattle.rules.proofs.Stories.Plays.{Hold, did-start, start-holds, story-plays}
 use Rattle.rules.proofs.Table.{step-keeps}
-use Rattle.rules.proofs.Trim.{trim-fresh, trim-step}
+use Rattle.rules.proofs.Frames.Trim.{trim-fresh, trim-step}
 use Rattle.trace.specs.Codec.{Note, Small, body, bytes}
 use Rattle.trace.specs.Kinds.{Asked, Fits, abridged, asked, encode, noteOf, opening, startArgs}
 use Rattle.trace.specs.Kinds.Asked.{asks, begins}
-use Rattle.trace.specs.Verdict.{Ending, Said, Stand, Taken, Traced, Verdict, begun, canBegin, extentOf, goesOn, left, matched, said, taken, unbegun, verdict, verdictFrom}
+use Rattle.trace.specs.Verdict.{Ending, Said, Stand, Taken, Traced, Verdict, begun, canBegin, extentOf, goesOn, left, matched, rightOne, judged, unbegun, verdict, verdictFrom}
 use Rattle.trace.specs.Verdict.Said.{right}
 use Rattle.trace.specs.Verdict.Stand.{before, stands}
 use Rattle.trace.specs.Verdict.Taken.{go}
@@ -64,24 +64,24 @@ unfolding encode
 framed-start w p z n = framed (noteOf w p (start z) (plain n)) (short-start w p z n)
 
 -- where the rules say it of what it asks for, it is taken, and the rest is judged from there
-from-right : (n : ℕ) (b t : Stand) (r bs : List ℕ) → Framed r → said (asked r) b ≡ right r t → verdictFrom n b (r ++ bs) ≡ verdictFrom (suc n) t bs
+from-right : (n : ℕ) (b t : Stand) (r bs : List ℕ) → Framed r → rightOne (asked r) b ≡ right r t → verdictFrom n b (r ++ bs) ≡ verdictFrom (suc n) t bs
 from-right n b t r bs f e =
-    let g : taken b r ≡ go t = ap (λ (x : Said). matched x r) e ∙ rw (same-refl r) in
+    let g : judged b r ≡ go t = ap (λ (x : Said). matched x r) e ∙ rw (same-refl r) in
     from-whole n b r bs (f .long) (f .says) ∙ ap (λ (x : Taken). goesOn x (λ u. verdictFrom (suc n) u bs) (bad n)) g
 
 -- ---- each line
-said-done : (w p : ℕ) (z : Sizes) (b : Stand) → canBegin (capsFrom z) w p ≡ true → said (begins w p z) b ≡ begun w p z
-unfolding said
+said-done : (w p : ℕ) (z : Sizes) (b : Stand) → canBegin (capsFrom z) w p ≡ true → rightOne (begins w p z) b ≡ begun w p z
+unfolding rightOne
 said-done w p z before q = rw q
 said-done w p z (stands k s) q = rw q
 
-said-not : (w p : ℕ) (z : Sizes) (k : Caps) (s : State) → canBegin (capsFrom z) w p ≡ false → said (begins w p z) (stands k s) ≡ unbegun w p z (stands k s)
-unfolding said
+said-not : (w p : ℕ) (z : Sizes) (k : Caps) (s : State) → canBegin (capsFrom z) w p ≡ false → rightOne (begins w p z) (stands k s) ≡ unbegun w p z (stands k s)
+unfolding rightOne
 said-not w p z k s q = rw q
 
 -- a payload over 252 bytes is read back as zeros, and neither record nor rule sees it
-said-op : (o : Op) (k : Caps) (s : State) → said (asks (abridged o)) (stands k s) ≡ right (encode 0 0 (op o) (step o k s .ans)) (stands k (step o k s .state))
-unfolding said
+said-op : (o : Op) (k : Caps) (s : State) → rightOne (asks (abridged o)) (stands k s) ≡ right (encode 0 0 (op o) (step o k s .ans)) (stands k (step o k s .state))
+unfolding rightOne
 said-op o k s =
     ap (λ (x : Out Answer). right (encode 0 0 (op (abridged o)) (x .ans)) (stands k (x .state))) (abridged-step o k s)
     ∙ ap (λ (x : List ℕ). right x (stands k (step o k s .state))) (abridged-same o (step o k s .ans))
@@ -138,19 +138,19 @@ from-traced {b} (Traced.started {bs = bs} {n = n} w p z q t) f g i rest =
     let r = encode w p (start z) (plain 0) in
     ap (verdictFrom i b) (append-assoc r bs rest)
     ∙ from-right i b (stands (capsFrom z) (newly (capsFrom z))) r (bs ++ rest) (framed-start w p z 0)
-    (ap (λ (x : Asked). said x b) (read-start w p z 0 (f .0 .small)) ∙ said-done w p z b q)
+    (ap (λ (x : Asked). rightOne x b) (read-start w p z 0 (f .0 .small)) ∙ said-done w p z b q)
     ∙ from-traced t (f .1) (begun-fine (capsFrom z) w p q) (suc i) rest ∙ ap (λ (j : ℕ). verdictFrom j (left t) rest) (omega arith)
 from-traced (Traced.refused {k} {s} {bs} {n} w p z q t) f g i rest =
     let r = encode w p (start z) (plain 1) in
     ap (verdictFrom i (stands k s)) (append-assoc r bs rest)
     ∙ from-right i (stands k s) (stands k s) r (bs ++ rest) (framed-start w p z 1)
-    (ap (λ (x : Asked). said x (stands k s)) (read-start w p z 1 (f .0 .small)) ∙ said-not w p z k s q)
+    (ap (λ (x : Asked). rightOne x (stands k s)) (read-start w p z 1 (f .0 .small)) ∙ said-not w p z k s q)
     ∙ from-traced t (f .1) g (suc i) rest ∙ ap (λ (j : ℕ). verdictFrom j (left t) rest) (omega arith)
 from-traced (Traced.called {k} {s} {bs} {n} o t) f g i rest =
     let r = encode 0 0 (op o) (step o k s .ans) in
     ap (verdictFrom i (stands k s)) (append-assoc r bs rest)
     ∙ from-right i (stands k s) (stands k (step o k s .state)) r (bs ++ rest) (framed-op o k s)
-    (ap (λ (x : Asked). said x (stands k s)) (read-op o k s (fits-op o k s g (f .0))) ∙ said-op o k s)
+    (ap (λ (x : Asked). rightOne x (stands k s)) (read-op o k s (fits-op o k s g (f .0))) ∙ said-op o k s)
     ∙ from-traced t (f .1) (step-keeps o k s g) (suc i) rest ∙ ap (λ (j : ℕ). verdictFrom j (left t) rest) (omega arith)
 
 ending-is : {b : Stand} {rest : List ℕ} {n : ℕ} {v : Verdict} → Ending b rest n v → verdictFrom n b rest ≡ v

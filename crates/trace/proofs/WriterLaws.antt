@@ -1,4 +1,4 @@
--- The stores of the writer are one store of the record. Assumes nothing.
+-- The stores of the writer are one store of the record.
 use Prim.Native.Nat.{ℕ, _+_, _*_, _<_, _≤_}
 use mathlib.Core.Path.{_≡_, _∙_}
 use mathlib.Core.Bool.{true, false}

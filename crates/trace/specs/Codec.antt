@@ -1,4 +1,4 @@
--- A record as bytes: length of what follows, kind, numbers, a text, numbers. One form for every kind. Assumes nothing.
+-- A record as bytes: length of what follows, kind, numbers, a text, numbers. One form for every kind.
 use Prim.Native.Nat.{ℕ, zero, suc, _+_, _-_, _*_, _^_, _<_}
 use mathlib.Core.Path.{_≡_}
 use mathlib.Core.Bool.{Bool, cond, _&&_}
@@ -42,21 +42,21 @@ unfoldable pub bytes : Note → List ℕ
 bytes n = le 2 (2 + length (body n)) ++ (le 2 (n .kind) ++ body n)
 
 -- ---- reading
-abbrev pub numbers : ℕ → List ℕ → List ℕ
-numbers zero bs = []
-numbers (suc k) bs = ofLe (take 8 bs) ∷ numbers k (drop 8 bs)
+abbrev pub numbersIn : ℕ → List ℕ → List ℕ
+numbersIn zero bs = []
+numbersIn (suc k) bs = ofLe (take 8 bs) ∷ numbersIn k (drop 8 bs)
 
 abbrev pub kindOf : List ℕ → ℕ
 kindOf bs = ofLe (take 2 (drop 2 bs))
 
 abbrev pub frontOf : Form → List ℕ → List ℕ
-frontOf f bs = numbers (f .fore) (drop 4 bs)
+frontOf f bs = numbersIn (f .fore) (drop 4 bs)
 
 abbrev pub textOf : Form → List ℕ → List ℕ
 textOf f bs = take (textLength f (frontOf f bs)) (drop (8 * f .fore) (drop 4 bs))
 
 abbrev pub backOf : Form → List ℕ → List ℕ
-backOf f bs = numbers (f .aft) (drop (textLength f (frontOf f bs)) (drop (8 * f .fore) (drop 4 bs)))
+backOf f bs = numbersIn (f .aft) (drop (textLength f (frontOf f bs)) (drop (8 * f .fore) (drop 4 bs)))
 
 unfoldable pub note : Form → List ℕ → Note
 note f bs = record { kind = kindOf bs; front = frontOf f bs; text = textOf f bs; back = backOf f bs }

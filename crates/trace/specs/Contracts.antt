@@ -1,4 +1,4 @@
--- What the functions promise. Assumes nothing.
+-- What the functions promise.
 use Prim.Native.Nat.{ℕ, _≤_}
 use mathlib.Core.Path.{_≡_}
 use mathlib.Core.Bool.{Bool, true, false, cond, _&&_}

@@ -1,4 +1,4 @@
--- THE TABLE of kinds, and a call with its answer as a note. Assumes nothing.
+-- THE TABLE of kinds, and a call with its answer as a note.
 use Prim.Native.Nat.{ℕ, _-_, _^_, _<_}
 use mathlib.Core.Bool.{Bool, cond}
 use mathlib.Core.List.{List, [], _∷_, _++_}

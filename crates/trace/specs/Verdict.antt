@@ -1,4 +1,4 @@
--- The verdict on a trace. Assumes nothing.
+-- The verdict on a trace.
 use Prim.Native.Nat.{ℕ, zero, suc, _+_}
 use mathlib.Core.Path.{_≡_}
 use mathlib.Core.Bool.{Bool, true, false, cond, _&&_, _||_}
@@ -42,12 +42,12 @@ abbrev pub unbegun : ℕ → ℕ → Sizes → Stand → Said
 unbegun w p z b = right (encode w p (start z) (plain 1)) b
 
 -- "a first record that isn't a successful start gives bad 0"; a later start is judged by the lengths that it carries, as the first is
-unfoldable pub said : Asked → Stand → Said
-said unknown b = wrong
-said (begins w p z) before = cond (canBegin (capsFrom z) w p) (begun w p z) wrong
-said (begins w p z) (stands k s) = cond (canBegin (capsFrom z) w p) (begun w p z) (unbegun w p z (stands k s))
-said (asks o) before = wrong
-said (asks o) (stands k s) = right (encode 0 0 (op o) (step o k s .ans)) (stands k (step o k s .state))
+unfoldable pub rightOne : Asked → Stand → Said
+rightOne unknown b = wrong
+rightOne (begins w p z) before = cond (canBegin (capsFrom z) w p) (begun w p z) wrong
+rightOne (begins w p z) (stands k s) = cond (canBegin (capsFrom z) w p) (begun w p z) (unbegun w p z (stands k s))
+rightOne (asks o) before = wrong
+rightOne (asks o) (stands k s) = right (encode 0 0 (op o) (step o k s .ans)) (stands k (step o k s .state))
 
 -- the same bytes
 abbrev pub same : List ℕ → List ℕ → Bool
@@ -66,8 +66,8 @@ abbrev pub matched : Said → List ℕ → Taken
 matched wrong r = stop
 matched (right b t) r = cond (same b r) (go t) stop
 
-abbrev pub taken : Stand → List ℕ → Taken
-taken b r = matched (said (asked r) b) r
+abbrev pub judged : Stand → List ℕ → Taken
+judged b r = matched (rightOne (asked r) b) r
 
 -- ---- all of them
 pub data Verdict : Type 0 where
@@ -90,7 +90,7 @@ judge zero n b bs = Verdict.ok n
 judge (suc m) n b bs =
     cond (eqb (length bs) 0) (Verdict.ok n)
     (cond (ends bs) (Verdict.cut n)
-    (goesOn (taken b (take (extentOf bs) bs)) (λ t. judge m (suc n) t (drop (extentOf bs) bs)) (Verdict.bad n)))
+    (goesOn (judged b (take (extentOf bs) bs)) (λ t. judge m (suc n) t (drop (extentOf bs) bs)) (Verdict.bad n)))
 
 -- each record takes two bytes or more, so as many steps as there are bytes are enough
 abbrev pub verdictFrom : ℕ → Stand → List ℕ → Verdict
@@ -121,4 +121,4 @@ left (Traced.called o t) = left t
 pub data Ending (b : Stand) (rest : List ℕ) (n : ℕ) : Verdict → Type 0 where
   all : length rest ≡ 0 → Ending b rest n (Verdict.ok n)
   inside : (length rest ≡ 0 → ⊥) → ends rest ≡ true → Ending b rest n (Verdict.cut n)
-  amiss : (length rest ≡ 0 → ⊥) → ends rest ≡ false → taken b (take (extentOf rest) rest) ≡ Taken.stop → Ending b rest n (Verdict.bad n)
+  amiss : (length rest ≡ 0 → ⊥) → ends rest ≡ false → judged b (take (extentOf rest) rest) ≡ Taken.stop → Ending b rest n (Verdict.bad n)

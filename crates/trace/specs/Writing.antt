@@ -1,4 +1,4 @@
--- The trace of a story: the record of each line, with the lengths that the buffers have there. Assumes nothing.
+-- The trace of a story: the record of each line, with the lengths that the buffers have there.
 use Prim.Native.Nat.{ℕ}
 use mathlib.Core.Path.{_≡_}
 use mathlib.Core.List.{List, [], _++_}

@@ -1,4 +1,4 @@
--- The count grows. Assumes nothing.
+-- The count grows.
 use Prim.Native.Nat.{_-_, _≤_}
 use borrow.Author.Needs.{needs}
 use Rattle.autopsy.proofs.run.Statement.{statement}

@@ -1,4 +1,4 @@
--- The buffers of the program are as long as the bench asks. Assumes nothing.
+-- The buffers of the program are as long as the bench asks.
 use Prim.Native.Nat.{ℕ, _≤_}
 use native.Mathlib.Omega.{arith}
 use lib.ListN.{length, length-replicate, replicate}

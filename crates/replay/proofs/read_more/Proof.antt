@@ -1,4 +1,4 @@
--- What came lies in the buffer. Assumes nothing.
+-- What came lies in the buffer.
 use borrow.Author.Needs.{needs}
 use Rattle.replay.proofs.read_more.Statement.{statement}
 use Rattle.replay.proofs.read_more.Tie as tie

@@ -1,4 +1,4 @@
--- The bench stays as it is to be between two pieces, and what was read lies in the buffer. Assumes nothing.
+-- The bench stays as it is to be between two pieces, and what was read lies in the buffer.
 use Prim.Native.Nat.{ℕ, _+_, _-_, _^_, _<_, _≤_}
 use native.Mathlib.Omega.{arith}
 use mathlib.Core.Path.{_≡_, refl, sym}

@@ -1,6 +1,6 @@
--- `sound::boxes_ok` meets its contract. Assumes nothing.
+-- `sound::boxes_ok` meets its contract.
 use mathlib.Core.Path.{_∙_}
-use Rattle.rules.proofs.RuleLaws.{and-same}
+use Rattle.rules.proofs.Kept.Rules.{and-same}
 use Rattle.sound.proofs.MailLaws.{slots-first}
 use Rattle.tables.specs.State.{view}
 use borrow.Author.Needs.{needs}

@@ -1,4 +1,4 @@
--- `sound::early_ok` meets its contract. Assumes nothing.
+-- `sound::early_ok` meets its contract.
 use native.Mathlib.Omega.{arith}
 use lib.Dec.{lit<}
 use Rattle.tables.specs.Columns.{STATE}

@@ -1,8 +1,8 @@
--- `sound::late_ok` meets its contract. Assumes nothing.
+-- `sound::late_ok` meets its contract.
 use mathlib.Core.Path.{_∙_}
 use Rattle.rules.specs.Rule.{test, each}
 use Rattle.rules.specs.Sound.{onceRule, arrivedRule, heldRule}
-use Rattle.rules.proofs.RuleLaws.{and-same}
+use Rattle.rules.proofs.Kept.Rules.{and-same}
 use Rattle.tables.specs.State.{view}
 use Rattle.sound.proofs.MarkLaws.{and-regroup}
 use borrow.Author.Needs.{needs}

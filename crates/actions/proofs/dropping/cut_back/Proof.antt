@@ -1,4 +1,4 @@
--- The words of the arrivals after those kept and before the i-th are 0. Assumes nothing.
+-- The words of the arrivals after those kept and before the i-th are 0.
 use Prim.Native.Nat.{_-_, _≤_}
 use mathlib.Core.Path.{_≡_, refl}
 use native.Mathlib.Omega.{arith}
@@ -21,7 +21,7 @@ loop-holds : tie.Need-loop-holds Inv-loop μ-loop
 loop-holds c =
     let c1 = c .before .before .before .before in
     let a = c1 .args in
-    (omega arith, omega (arith, c .get .ensures, c1 .pre .1), c1 .pre .0, swept-none (view (a .k) (a .t .now) (a .p .now)) (a .kept), refl)
+    (omega arith, omega (arith, c .get .ensures, c1 .pre .1 .0), c1 .pre .0, swept-none (view (a .k) (a .t .now) (a .p .now)) (a .kept), refl)
 
 loop-again : tie.Need-loop-again Inv-loop μ-loop
 loop-again c =
@@ -39,7 +39,7 @@ returns c =
     let a = c2 .args in
     let s = view (a .k) (a .t .now) (a .p .now) in
     let e : l .i ≡ head s ARRIVED = omega (arith, c1 .get .ensures) in
-    record { is = rw (d .is, l .inv .3, e) (swept-all s (a .kept) (c2 .pre .1) (omega (arith, c2 .pre .2, view-full (a .k) (a .t .now) (a .p .now) (c2 .pre .0 .words) ARRIVAL (omega arith)))); room = d .room }
+    record { is = rw (d .is, l .inv .3, e) (swept-all s (a .kept) (c2 .pre .1 .0) (omega (arith, c2 .pre .1 .1, view-full (a .k) (a .t .now) (a .p .now) (c2 .pre .0 .words) ARRIVAL (omega arith)))); room = d .room }
 
 pub cut-back-spec : {M : Type 1} → statement M
 cut-back-spec = tie.close (tie.spec Inv-loop μ-loop (λ c κs. search needs) loop-holds (λ c κs. search needs) (λ c. search needs) (λ c. search needs) loop-again (λ c κs. search needs) (λ c. search needs) returns)

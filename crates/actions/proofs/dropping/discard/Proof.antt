@@ -1,4 +1,4 @@
--- The mailbox entry is freed, then its data entry. Assumes nothing.
+-- The mailbox entry is freed, then its data entry.
 use Rattle.actions.specs.Emptying.{discard}
 use borrow.Author.Needs.{needs}
 use Rattle.actions.proofs.dropping.discard.Statement.{statement}

@@ -1,4 +1,4 @@
--- The mailbox is being emptied, and i arrivals were passed. Assumes nothing.
+-- The mailbox is being emptied, and i arrivals were passed.
 use Prim.Native.Nat.{_-_}
 use mathlib.Core.Path.{_≡_, refl}
 use native.Mathlib.Omega.{arith}
@@ -36,15 +36,15 @@ loop-again : tie.Need-loop-again Inv-loop μ-loop
 loop-again c =
     let f = c .before .before .before .before .sift in
     let c1 = c .before .before .before .before .before .before .before in
-    let z = pass-turn (c1 .before .loop .inv .1) (omega arith) (f .result) (f .ensures .stay) in
-    (f .ensures .left .room, rw (f .ensures .left .is) z, search needs, search needs)
+    let z = pass-turn (c1 .before .loop .inv .1) (omega arith) (f .result) (f .ensures .0) in
+    (f .ensures .1 .room, rw (f .ensures .1 .is) z, search needs, search needs)
 
 cut-back-requires : tie.Need-cut-back-requires Inv-loop μ-loop
 cut-back-requires c κs =
     let l = c .before .before .before .loop in
     let g = c .before .before .before .before .get in
     let s = c .before .before .before .before .before .before .before .before .before in
-    (l .inv .0, omega (arith, l .inv .1 .all, l .inv .1 .stay, l .inv .1 .within), omega (arith, l .inv .1 .all, g .ensures, s .pre .2))
+    (l .inv .0, (omega (arith, l .inv .1 .all, l .inv .1 .stay, l .inv .1 .within), omega (arith, l .inv .1 .all, g .ensures, s .pre .2)))
 
 returns : tie.Need-returns Inv-loop μ-loop
 returns c =

@@ -1,4 +1,4 @@
--- An arrival is the slot's, or it stays. Assumes nothing.
+-- An arrival is the slot's, or it stays.
 use mathlib.Core.Path.{sym, _∙_}
 use Rattle.actions.specs.Emptying.{sift}
 use borrow.Author.Needs.{needs}
@@ -11,7 +11,7 @@ returns c =
     let d = c .before .before .before .before .discard .ensures in
     let c1 = c .before .before .before .before .before .before .before in
     let m = sym (c1 .before .is-mine .ensures) ∙ c1 .if1 .taken in
-    record { left = record { is = rw (m, d .is); room = d .room }; stay = rw m }
+    (rw m, record { is = rw (m, d .is); room = d .room })
 
 returns-2 : tie.Need-returns-2
 unfolding sift
@@ -20,7 +20,7 @@ returns-2 c =
     let c1 = c .before .before .before .before .before in
     let c2 = c1 .before .before .before in
     let m = sym (c2 .before .is-mine .ensures) ∙ c2 .if1 .left in
-    record { left = record { is = rw (m, d .is, c1 .get .ensures); room = d .room }; stay = rw m }
+    (rw m, record { is = rw (m, d .is, c1 .get .ensures); room = d .room })
 
 pub sift-spec : {M : Type 1} → statement M
 sift-spec = tie.close (tie.spec (λ c κs. search needs) (λ c κs. search needs) (λ c. search needs) (λ c. search needs) returns (λ c κs. search needs) (λ c κs. search needs) (λ c. search needs) (λ c. search needs) (λ c. search needs) returns-2)

@@ -1,4 +1,4 @@
--- The tests are those of the rule. Assumes nothing.
+-- The tests are those of the rule.
 use Rattle.rules.specs.Terms.{joins}
 use borrow.Author.Needs.{needs}
 use Rattle.actions.proofs.links.joins.Statement.{statement}

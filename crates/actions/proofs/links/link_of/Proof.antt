@@ -1,4 +1,4 @@
--- No link entry below e joins the two. Assumes nothing.
+-- No link entry below e joins the two.
 use Prim.Native.Nat.{_-_}
 use mathlib.Core.Path.{refl}
 use native.Mathlib.Omega.{arith}

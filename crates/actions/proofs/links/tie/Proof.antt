@@ -1,4 +1,4 @@
--- `tie` is two puts. Assumes nothing.
+-- `tie` is two puts.
 use Rattle.rules.specs.Calls.{tie}
 use borrow.Author.Needs.{needs}
 use Rattle.actions.proofs.links.tie.Statement.{statement}

@@ -1,4 +1,4 @@
--- `delist` is an entry freed and a pull. Assumes nothing.
+-- `delist` is an entry freed and a pull.
 use native.Mathlib.Omega.{arith}
 use Rattle.tables.specs.State.{with-col, poke}
 use Rattle.tables.specs.Action.{freeBit}
@@ -13,7 +13,7 @@ unfolding disown freeBit with-col poke
 pull-requires c κs =
     let d = c .before .before .before .disown .ensures in
     let h = c .before .before .before .before .before .before .before .before .before .pre in
-    (d .room, omega arith, omega arith, rw (d .is) (h .1), rw (d .is) (h .2))
+    (d .room, (omega arith, omega arith, rw (d .is) (h .1 .0), rw (d .is) (h .1 .1)))
 
 returns : tie.Need-returns
 unfolding delist disown

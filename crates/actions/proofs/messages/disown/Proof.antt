@@ -1,4 +1,4 @@
--- `disown` is a bit freed and two puts. Assumes nothing.
+-- `disown` is a bit freed and two puts.
 use Rattle.actions.specs.Emptying.{disown}
 use borrow.Author.Needs.{needs}
 use Rattle.actions.proofs.messages.disown.Statement.{statement}

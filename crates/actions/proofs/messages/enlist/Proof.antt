@@ -1,4 +1,4 @@
--- `enlist` is a bit taken, two puts and a push. Assumes nothing.
+-- `enlist` is a bit taken, two puts and a push.
 use native.Mathlib.Omega.{arith}
 use native.Mathlib.Numerals.{add-one}
 use Rattle.tables.specs.State.{with-col, poke}
@@ -15,7 +15,7 @@ push-requires c κs =
     let c2 = c1 .before .before .before .before in
     let c3 = c2 .before .before .before .before in
     let c4 = c3 .before .before .before .before in
-    (c1 .put2 .ensures .room, omega arith, omega arith, rw (c1 .put2 .ensures .is, c2 .put .ensures .is, c3 .take-bit .ensures .is) (c4 .pre .3))
+    (c1 .put2 .ensures .room, (omega arith, omega arith, rw (c1 .put2 .ensures .is, c2 .put .ensures .is, c3 .take-bit .ensures .is) (c4 .pre .1 .2)))
 
 returns : tie.Need-returns
 unfolding enlist

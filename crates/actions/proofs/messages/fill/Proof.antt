@@ -1,4 +1,4 @@
--- `fill` is a mark, a header and the payload. Assumes nothing.
+-- `fill` is a mark, a header and the payload.
 use Rattle.rules.specs.Actions.{fill}
 use borrow.Author.Needs.{needs}
 use Rattle.actions.proofs.messages.fill.Statement.{statement}

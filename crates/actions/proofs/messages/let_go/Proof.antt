@@ -1,4 +1,4 @@
--- The hand is empty, or not. Assumes nothing.
+-- The hand is empty, or not.
 use mathlib.Core.Path.{_≡_, sym, _∙_}
 use mathlib.Core.Bool.{true, false}
 use lib.Dec.{eqb}

@@ -1,4 +1,4 @@
--- `mark` is a bit taken and two puts. Assumes nothing.
+-- `mark` is a bit taken and two puts.
 use borrow.Author.Needs.{needs}
 use Rattle.actions.proofs.messages.mark.Statement.{statement}
 use Rattle.actions.proofs.messages.mark.Tie as tie

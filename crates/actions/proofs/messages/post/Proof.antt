@@ -1,8 +1,9 @@
--- `post` is a message in its data entry, in a mailbox, and what it stirs. Assumes nothing.
+-- `post` is a message in its data entry, in a mailbox, and what it stirs.
 use native.Mathlib.Omega.{arith}
 use Rattle.tables.specs.State.{view}
 use Rattle.rules.specs.Actions.{post}
-use Rattle.actions.proofs.ActionLaws.{room-data, enlist-queued, fill-arrived, fill-queued}
+use Rattle.rules.proofs.Kept.Messages.{room-free}
+use Rattle.actions.proofs.ActionLaws.{enlist-queued, fill-arrived, fill-queued}
 use borrow.Author.Needs.{needs}
 use Rattle.actions.proofs.messages.post.Statement.{statement}
 use Rattle.actions.proofs.messages.post.Tie as tie
@@ -12,8 +13,8 @@ fill-requires c κs =
     let c1 = c .before .before .before .before .before in
     let c2 = c1 .before .before .before .before .before .before in
     let a = c2 .args in
-    let g = room-data (a .k) (view (a .k) (a .t .now) (a .p .now)) (c2 .pre .1) in
-    (c2 .pre .0, rw (c1 .data-for .ensures) g, c2 .pre .2)
+    let g = room-free (a .k) (view (a .k) (a .t .now) (a .p .now)) (c2 .pre .1 .0) .0 in
+    (c2 .pre .0, rw (c1 .data-for .ensures) g, c2 .pre .1 .1)
 
 enlist-requires : tie.Need-enlist-requires
 enlist-requires c κs =
@@ -21,15 +22,15 @@ enlist-requires c κs =
     let c2 = c1 .before .before .before .before .before .before in
     let c3 = c2 .before .before .before .before .before .before in
     let a = c3 .args in
-    let g = room-data (a .k) (view (a .k) (a .t .now) (a .p .now)) (c3 .pre .1) in
-    (c1 .fill .ensures .room, c3 .pre .3, rw (c2 .data-for .ensures) (omega arith), rw (c1 .fill .ensures .is, fill-arrived) (c3 .pre .5))
+    let g = room-free (a .k) (view (a .k) (a .t .now) (a .p .now)) (c3 .pre .1 .0) .0 in
+    (c1 .fill .ensures .room, (c3 .pre .1 .2, rw (c2 .data-for .ensures) (omega arith), rw (c1 .fill .ensures .is, fill-arrived) (c3 .pre .1 .4)))
 
 stir-requires : tie.Need-stir-requires
 stir-requires c κs =
     let c1 = c .before .before .before .before in
     let c2 = c1 .before .before .before .before .before .before .before in
     let c3 = c2 .before .before .before .before .before .before .before .before .before .before .before .before in
-    (c1 .enlist .ensures .room, rw (c1 .enlist .ensures .is, enlist-queued, c2 .fill .ensures .is, fill-queued) (c3 .pre .4))
+    (c1 .enlist .ensures .room, rw (c1 .enlist .ensures .is, enlist-queued, c2 .fill .ensures .is, fill-queued) (c3 .pre .1 .3))
 
 returns : tie.Need-returns
 unfolding post

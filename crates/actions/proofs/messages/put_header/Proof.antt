@@ -1,4 +1,4 @@
--- The header is four bytes written into the entry. Assumes nothing.
+-- The header is four bytes written into the entry.
 use native.Mathlib.Nat.{add-zero}
 use native.Mathlib.Omega.{arith}
 use Prim.Native.Nat.{_*_}

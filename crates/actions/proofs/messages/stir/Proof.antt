@@ -1,4 +1,4 @@
--- The filter matches, or not. Assumes nothing.
+-- The filter matches, or not.
 use mathlib.Core.Path.{sym, _∙_}
 use Rattle.rules.specs.Actions.{stir}
 use borrow.Author.Needs.{needs}

@@ -1,4 +1,4 @@
--- The filter is that of the slot. Assumes nothing.
+-- The filter is that of the slot.
 use borrow.Author.Needs.{needs}
 use Rattle.actions.proofs.messages.suits.Statement.{statement}
 use Rattle.actions.proofs.messages.suits.Tie as tie

@@ -1,4 +1,4 @@
--- `unfill` takes the mark and the bytes away. Assumes nothing.
+-- `unfill` takes the mark and the bytes away.
 use Rattle.rules.specs.Actions.{unfill}
 use borrow.Author.Needs.{needs}
 use Rattle.actions.proofs.messages.unfill.Statement.{statement}

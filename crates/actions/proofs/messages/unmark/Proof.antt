@@ -1,4 +1,4 @@
--- `unmark` is a bit freed and two puts. Assumes nothing.
+-- `unmark` is a bit freed and two puts.
 use borrow.Author.Needs.{needs}
 use Rattle.actions.proofs.messages.unmark.Statement.{statement}
 use Rattle.actions.proofs.messages.unmark.Tie as tie

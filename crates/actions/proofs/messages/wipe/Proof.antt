@@ -1,4 +1,4 @@
--- Past the last entry there is nothing to wipe. Assumes nothing.
+-- Past the last entry there is nothing to wipe.
 use mathlib.Core.Path.{sym}
 use native.Mathlib.Omega.{arith}
 use lib.ListN.{replicate}

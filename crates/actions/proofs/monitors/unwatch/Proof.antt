@@ -1,11 +1,11 @@
--- `unwatch` is two puts. Assumes nothing.
-use Rattle.rules.specs.Calls.{unwatch}
+-- `unwatch` is two puts.
+use Rattle.rules.specs.Aged.{endUse}
 use borrow.Author.Needs.{needs}
 use Rattle.actions.proofs.monitors.unwatch.Statement.{statement}
 use Rattle.actions.proofs.monitors.unwatch.Tie as tie
 
 returns : tie.Need-returns
-unfolding unwatch
+unfolding endUse
 returns c =
     let c1 = c .before .before in
     let c2 = c1 .before .before .before .before in

@@ -1,11 +1,11 @@
--- `watch` is three puts of what was read. Assumes nothing.
-use Rattle.rules.specs.Calls.{watch}
+-- `watch` is three puts of what was read.
+use Rattle.rules.specs.Aged.{beginUse}
 use borrow.Author.Needs.{needs}
 use Rattle.actions.proofs.monitors.watch.Statement.{statement}
 use Rattle.actions.proofs.monitors.watch.Tie as tie
 
 returns : tie.Need-returns
-unfolding watch
+unfolding beginUse
 returns c =
     let c1 = c .before .before in
     let c2 = c1 .before .before .before .before in

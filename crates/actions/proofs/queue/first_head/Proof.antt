@@ -1,4 +1,4 @@
--- Of the i that were passed, the first of the least level. Assumes nothing.
+-- Of the i that were passed, the first of the least level.
 use Prim.Native.Nat.{_-_}
 use mathlib.Core.Logic.{⊎-elim}
 use native.Mathlib.Omega.{arith}

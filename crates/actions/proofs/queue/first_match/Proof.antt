@@ -1,4 +1,4 @@
--- None of the arrivals before i matches. Assumes nothing.
+-- None of the arrivals before i matches.
 use Prim.Native.Nat.{_-_}
 use native.Mathlib.Omega.{arith}
 use Rattle.tables.specs.Columns.{ARRIVED}

@@ -1,4 +1,4 @@
--- The test is that of the rule. Assumes nothing.
+-- The test is that of the rule.
 use native.Mathlib.Numerals.{add-one}
 use borrow.Author.Needs.{needs}
 use Rattle.actions.proofs.queue.is_mine.Statement.{statement}

@@ -1,4 +1,4 @@
--- The level is that of the rule. Assumes nothing.
+-- The level is that of the rule.
 use borrow.Author.Needs.{needs}
 use Rattle.actions.proofs.queue.level_of.Statement.{statement}
 use Rattle.actions.proofs.queue.level_of.Tie as tie

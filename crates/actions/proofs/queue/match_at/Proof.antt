@@ -1,4 +1,4 @@
--- An arrival of another's is no match; of one that is the slot's the filter decides. Assumes nothing.
+-- An arrival of another's is no match; of one that is the slot's the filter decides.
 use mathlib.Core.Path.{sym, _∙_}
 use borrow.Author.Needs.{needs}
 use Rattle.actions.proofs.queue.match_at.Statement.{statement}

@@ -1,4 +1,4 @@
--- Both tests are those of the rule. Assumes nothing.
+-- Both tests are those of the rule.
 use borrow.Author.Needs.{needs}
 use Rattle.actions.proofs.room.has_room.Statement.{statement}
 use Rattle.actions.proofs.room.has_room.Tie as tie

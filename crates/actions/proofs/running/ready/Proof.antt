@@ -1,4 +1,4 @@
--- `ready` is two puts and a push. Assumes nothing.
+-- `ready` is two puts and a push.
 use native.Mathlib.Omega.{arith}
 use Rattle.tables.specs.State.{with-col, poke}
 use Rattle.rules.specs.Actions.{ready}
@@ -12,7 +12,7 @@ push-requires c κs =
     let c1 = c .before .before .before in
     let c2 = c1 .before .before .before .before in
     let c3 = c2 .before .before .before .before in
-    (c1 .put2 .ensures .room, omega arith, omega arith, rw (c1 .put2 .ensures .is, c2 .put .ensures .is) (c3 .pre .1))
+    (c1 .put2 .ensures .room, (omega arith, omega arith, rw (c1 .put2 .ensures .is, c2 .put .ensures .is) (c3 .pre .1)))
 
 returns : tie.Need-returns
 unfolding ready

@@ -1,4 +1,4 @@
--- `unwait` is four puts. Assumes nothing.
+-- `unwait` is four puts.
 use Rattle.rules.specs.Actions.{unwait}
 use borrow.Author.Needs.{needs}
 use Rattle.actions.proofs.running.unwait.Statement.{statement}

@@ -1,4 +1,4 @@
--- `wake` is unwait and ready. Assumes nothing.
+-- `wake` is unwait and ready.
 use Rattle.tables.specs.State.{with-col, poke}
 use Rattle.rules.specs.Actions.{unwait}
 use borrow.Author.Needs.{needs}

@@ -1,12 +1,12 @@
--- `arm` is four puts of what was read. Assumes nothing.
+-- `arm` is four puts of what was read.
 use native.Mathlib.Numerals.{add-one}
-use Rattle.rules.specs.Calls.{arm}
+use Rattle.rules.specs.Aged.{beginUse}
 use borrow.Author.Needs.{needs}
 use Rattle.actions.proofs.timers.arm.Statement.{statement}
 use Rattle.actions.proofs.timers.arm.Tie as tie
 
 returns : tie.Need-returns
-unfolding arm
+unfolding beginUse
 returns c =
     let c1 = c .before .before in
     let c2 = c1 .before .before .before .before in

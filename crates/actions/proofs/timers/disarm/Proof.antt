@@ -1,11 +1,11 @@
--- `disarm` is three puts. Assumes nothing.
-use Rattle.rules.specs.Calls.{disarm}
+-- `disarm` is three puts.
+use Rattle.rules.specs.Aged.{endUse}
 use borrow.Author.Needs.{needs}
 use Rattle.actions.proofs.timers.disarm.Statement.{statement}
 use Rattle.actions.proofs.timers.disarm.Tie as tie
 
 returns : tie.Need-returns
-unfolding disarm
+unfolding endUse
 returns c =
     let c1 = c .before .before in
     let c2 = c1 .before .before .before .before in

@@ -1,4 +1,4 @@
--- The two arms of `rearm`. Assumes nothing.
+-- The two arms of `rearm`.
 use mathlib.Core.Path.{_≡_, sym, _∙_}
 use mathlib.Core.Bool.{true, false}
 use lib.Dec.{eqb}

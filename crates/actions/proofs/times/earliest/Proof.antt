@@ -1,4 +1,4 @@
--- The two columns are lent. Assumes nothing.
+-- The two columns are lent.
 use Rattle.tables.proofs.ViewLaws.{view-full}
 use borrow.Author.Needs.{needs}
 use Rattle.actions.proofs.times.earliest.Statement.{statement}

@@ -1,4 +1,4 @@
--- The best is that of the entries below i. Assumes nothing.
+-- The best is that of the entries below i.
 use Prim.Native.Nat.{_≤_, _-_}
 use mathlib.Core.Path.{_≡_}
 use mathlib.Core.Logic.{⊎-elim}

@@ -1,4 +1,4 @@
--- The buffer that is written keeps its length. Assumes nothing.
+-- The buffer that is written keeps its length.
 use Prim.Native.Nat.{_-_, _≤_}
 use mathlib.Core.Path.{_≡_}
 use lib.ListN.{length}

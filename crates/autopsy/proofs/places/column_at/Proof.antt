@@ -1,8 +1,8 @@
--- What `ranged` says is what `place_of` asks. Assumes nothing.
+-- What `ranged` says is what `place_of` asks.
 use mathlib.Core.Path.{sym, _∙_}
 use borrow.Author.Needs.{needs}
 use Rattle.rules.specs.Sound.{rangeRule}
-use Rattle.rules.proofs.RuleLaws.{reads}
+use Rattle.rules.proofs.Kept.Rules.{reads}
 use Rattle.autopsy.proofs.places.column_at.Statement.{statement}
 use Rattle.autopsy.proofs.places.column_at.Tie as tie
 

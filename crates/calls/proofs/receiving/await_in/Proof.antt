@@ -1,4 +1,4 @@
--- `await_in` is halt and five puts. Assumes nothing.
+-- `await_in` is halt and five puts.
 use Rattle.rules.specs.Calls.{await}
 use borrow.Author.Needs.{needs}
 use Rattle.calls.proofs.receiving.await_in.Statement.{statement}

@@ -1,4 +1,4 @@
--- By the sign. Assumes nothing.
+-- By the sign.
 use mir.Syntax.{w64}
 use mir.ValLaws.{toZ-ofZ}
 use Rattle.calls.proofs.WaitLaws.{wait-ever, wait-long}

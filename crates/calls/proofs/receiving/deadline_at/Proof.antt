@@ -1,4 +1,4 @@
--- By the sign. Assumes nothing.
+-- By the sign.
 use native.Mathlib.Omega.{arith}
 use mir.Syntax.{w64}
 use mir.ValLaws.{toZ-ofZ}

@@ -1,4 +1,4 @@
--- What is answered is read before the mailbox entry is freed. Assumes nothing.
+-- What is answered is read before the mailbox entry is freed.
 use native.Mathlib.Numerals.{add-one}
 use native.Mathlib.Omega.{arith}
 use Rattle.rules.specs.Calls.{handOver}
@@ -10,7 +10,7 @@ add-put : tie.Need-add-put
 add-put c =
     let c1 = c .before .before .before .before .before .before .before in
     let c2 = c1 .before .before .before .before in
-    omega (arith, c1 .data-of .ensures, c2 .pre .3)
+    omega (arith, c1 .data-of .ensures, c2 .pre .1 .2)
 
 returns : tie.Need-returns
 unfolding handOver

@@ -1,4 +1,4 @@
--- Only 0 has the bits of 0. Assumes nothing.
+-- Only 0 has the bits of 0.
 use Rattle.calls.proofs.WaitLaws.{wait-zero}
 use Rattle.calls.proofs.receiving.not_at_all.Statement.{statement}
 use Rattle.calls.proofs.receiving.not_at_all.Tie as tie

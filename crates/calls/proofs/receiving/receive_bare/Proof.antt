@@ -1,4 +1,4 @@
--- There is a match; there is none, and the actor waits, or not. Assumes nothing.
+-- There is a match; there is none, and the actor waits, or not.
 use mathlib.Core.Path.{refl, sym, _∙_}
 use native.Mathlib.Omega.{arith}
 use mir.Syntax.{w64}
@@ -15,7 +15,7 @@ hand-over-requires c κs =
     let c2 = c1 .before in
     let c3 = c2 .before .before in
     let c4 = c3 .before .before .before .before in
-    (c4 .pre .0, omega (arith, c1 .if1 .taken, c2 .get .ensures), c4 .pre .3, c4 .pre .4 (c3 .first-match .result))
+    (c4 .pre .0, (omega (arith, c1 .if1 .taken, c2 .get .ensures), c4 .pre .1 .2, c4 .pre .1 .3 (c3 .first-match .result)))
 
 returns : tie.Need-returns
 unfolding receiveBare
@@ -44,7 +44,7 @@ deadline-at-requires c κs =
     let c1 = c .before .before .before .before .before .before .before .before .before .before .before in
     let a = c1 .args in
     let z = toZ-ofZ w64 (a .wait) (c1 .fits .wait) in
-    (rw (c .get2 .ensures) (c1 .pre .2), rw z (c1 .pre .5))
+    (rw (c .get2 .ensures) (c1 .pre .1 .1), rw z (c1 .pre .1 .4))
 
 returns-3 : tie.Need-returns-3
 unfolding receiveBare

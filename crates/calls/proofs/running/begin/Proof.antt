@@ -1,4 +1,4 @@
--- `begin` is two puts and ready. Assumes nothing.
+-- `begin` is two puts and ready.
 use Rattle.tables.specs.State.{with-col, poke}
 use borrow.Author.Needs.{needs}
 use Rattle.calls.proofs.running.begin.Statement.{statement}
@@ -10,7 +10,7 @@ ready-requires c κs =
     let c1 = c .before .before .before in
     let c2 = c1 .before .before .before .before in
     let c3 = c2 .before .before .before .before .before .before in
-    (c1 .put2 .ensures .room, rw (c1 .put2 .ensures .is, c2 .put .ensures .is) (c3 .pre .3))
+    (c1 .put2 .ensures .room, rw (c1 .put2 .ensures .is, c2 .put .ensures .is) (c3 .pre .1 .2))
 
 returns : tie.Need-returns
 returns c =

@@ -1,4 +1,4 @@
--- `run` is a pull and three puts. Assumes nothing.
+-- `run` is a pull and three puts.
 use native.Mathlib.Numerals.{add-one}
 use Rattle.rules.specs.Calls.{run}
 use borrow.Author.Needs.{needs}

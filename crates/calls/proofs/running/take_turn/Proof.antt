@@ -1,4 +1,4 @@
--- What is answered is read before. Assumes nothing.
+-- What is answered is read before.
 use borrow.Author.Needs.{needs}
 use Rattle.calls.proofs.running.take_turn.Statement.{statement}
 use Rattle.calls.proofs.running.take_turn.Tie as tie

@@ -1,4 +1,4 @@
--- The numbers fit. Assumes nothing.
+-- The numbers fit.
 use mathlib.Core.Path.{_∙_}
 use native.Mathlib.Omega.{arith}
 use mir.Syntax.{w64}
@@ -8,9 +8,9 @@ use Rattle.tables.specs.Limits.{ALWAYS}
 use Rattle.tables.specs.State.{view}
 use Rattle.rules.specs.Actions.{earliest}
 use Rattle.rules.specs.Calls.{sleep}
-use Rattle.rules.proofs.Ready.{good-ready}
+use Rattle.rules.proofs.Kept.Ready.{good-ready}
 use Prim.Native.Nat.{_-_}
-use Rattle.calls.proofs.CallLaws.{deadline-fits, due-fits}
+use Rattle.rules.proofs.Kept.Clauses.{deadline-fits, due-fits}
 use borrow.Author.Needs.{needs}
 use Rattle.calls.proofs.sleeping.sleep.Statement.{statement}
 use Rattle.calls.proofs.sleeping.sleep.Tie as tie

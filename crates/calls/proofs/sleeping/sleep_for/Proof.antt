@@ -1,4 +1,4 @@
--- The five arms. Assumes nothing.
+-- The five arms.
 use Prim.Native.Nat.{min}
 use mathlib.Core.Path.{_≡_, _∙_}
 use mir.Syntax.{w64}

@@ -1,4 +1,4 @@
--- The time is read at the entry that was found. Assumes nothing.
+-- The time is read at the entry that was found.
 use borrow.Author.Needs.{needs}
 use Rattle.calls.proofs.sleeping.soonest.Statement.{statement}
 use Rattle.calls.proofs.sleeping.soonest.Tie as tie

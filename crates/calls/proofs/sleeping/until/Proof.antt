@@ -1,4 +1,4 @@
--- A number below 2^63 is the same signed. Assumes nothing.
+-- A number below 2^63 is the same signed.
 use Prim.Native.Nat.{_-_}
 use mathlib.Core.Path.{_≡_}
 use native.Mathlib.Omega.{arith}

@@ -1,4 +1,4 @@
--- `after_in` is `arm_in`, whose number is good only if it is not too large. Assumes nothing.
+-- `after_in` is `arm_in`, whose number is good only if it is not too large.
 use native.Mathlib.Omega.{arith}
 use borrow.Author.Tests.{ltb-false}
 use borrow.Author.Needs.{needs}

@@ -1,4 +1,4 @@
--- `every_in` is `arm_in`, whose number is good only if it is not too large. Assumes nothing.
+-- `every_in` is `arm_in`, whose number is good only if it is not too large.
 use native.Mathlib.Omega.{arith}
 use lib.Dec.{eqb, ltb}
 use borrow.Author.Tests.{ltb-false}

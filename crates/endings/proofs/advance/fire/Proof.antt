@@ -1,4 +1,4 @@
--- A timer that fires is due again or ends, and its owner gets a tick. Assumes nothing.
+-- A timer that fires is due again or ends, and its owner gets a tick.
 use native.Mathlib.Omega.{arith}
 use Rattle.tables.specs.State.{view}
 use Rattle.rules.specs.Calls.{fire}
@@ -12,7 +12,7 @@ send-tick-requires c κs = let a = c .before .before .before .before .before .be
     let f = c .before .before .before .before .before .before .before .before .before .before .before .before .before .before .before .pre .1 in
     let d = c .before .before .before .before .rearm in
     let s = view (a .k) (a .t .now) (a .p .now) in
-    (d .ensures .room, rw (d .ensures .is) (rearm-room s (a .i) (a .k) (f .room)), rw (d .ensures .is) (rearm-short s (a .i) (f .short)), omega (arith, c .before .before .before .before .before .before .before .before .before .before .get .ensures, f .owner))
+    (d .ensures .room, (rw (d .ensures .is) (rearm-room s (a .i) (a .k) (f .room)), rw (d .ensures .is) (rearm-short s (a .i) (f .short)), omega (arith, c .before .before .before .before .before .before .before .before .before .before .get .ensures, f .owner)))
 
 returns : tie.Need-returns
 unfolding fire

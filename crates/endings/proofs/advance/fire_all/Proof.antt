@@ -1,4 +1,4 @@
--- The row has the timers that are due by the clock. Assumes nothing.
+-- The row has the timers that are due by the clock.
 use Rattle.tables.specs.State.{view}
 use Rattle.endings.specs.Order.{Waiting}
 use borrow.Author.Needs.{needs}
@@ -14,7 +14,7 @@ fire-row-requires c κs =
     let s = c .before .before .before .before .before .before .before .before .before .before .before .before in
     let a = s .args in
     let o : Waiting (a .k) (view (a .k) (a .t .now) (a .p .now)) (d .result) (d .last .1 .1 .1 .1 .0) = rw (c .before .before .before .before .before .before .before .get .ensures) at (d .ensures .order) in
-    (s .pre .0, s .pre .1, o, d .ensures .few)
+    (s .pre .0, (s .pre .1, o, d .ensures .few))
 
 returns : tie.Need-returns
 returns c = c .before .before .before .before .fire-row .ensures

@@ -1,4 +1,4 @@
--- What is left to fire of the present state is what was to fire of the first. Assumes nothing.
+-- What is left to fire of the present state is what was to fire of the first.
 use Prim.Native.Nat.{ℕ, _≤_, _<_, _-_, _+_}
 use mathlib.Core.Path.{_≡_, refl, sym, ap, _∙_}
 use mathlib.Core.Bool.{true, false}
@@ -10,8 +10,8 @@ use Rattle.tables.specs.Columns.{DUE, TIMER-OWNER}
 use Rattle.tables.specs.State.{view, Room}
 use Rattle.rules.specs.Actions.{hasRoom}
 use Rattle.rules.specs.Calls.{Fired, fired, fireAll, nextDue}
-use Rattle.rules.proofs.Advance.{fire-late, ticks}
-use Rattle.rules.proofs.Clock.{late-sized}
+use Rattle.rules.proofs.Reckoned.Clock.{fire-late, ticks}
+use Rattle.rules.proofs.Kept.Clock.{late-sized}
 use Rattle.endings.specs.Asked.{Raised}
 use Rattle.endings.specs.Order.{Waiting}
 use Rattle.endings.proofs.EndingLaws.{fire-ends, fire-turn, late-fires}
@@ -31,7 +31,7 @@ loop-holds c =
     let s = c .before .before in
     let a = s .args in
     let e : a .k .timers - 0 ≡ a .k .timers = omega arith in
-    (s .pre .0, s .pre .1, s .pre .2, omega (arith, s .pre .3), ap (λ (m : ℕ). fireAll (a .k) m (fired 0 (view (a .k) (a .t .now) (a .p .now)))) e, refl, refl)
+    (s .pre .0, s .pre .1 .0, s .pre .1 .1, omega (arith, s .pre .1 .2), ap (λ (m : ℕ). fireAll (a .k) m (fired 0 (view (a .k) (a .t .now) (a .p .now)))) e, refl, refl)
 
 returns : tie.Need-returns Inv-loop μ-loop
 returns c =
@@ -57,7 +57,8 @@ fire-requires c κs =
     let h = c .before .before .before .before .has-room in
     let r : hasRoom (a .k) s ≡ true = sym (h .ensures) ∙ not-false (h .result) (c .before .before .before .if1 .left) in
     let e : nextDue (a .k) s - 1 ≡ getD (a .row .now) (l .left - 1) 0 = omega (arith, waiting-next (a .k) s (l .left) (a .row .now) (l .inv .2) w) in
-    (l .inv .0, rw e at (late-fires (a .k) (l .inv .1 .0) s (l .inv .1 .1) (waiting-fires (a .k) s (l .left) (a .row .now) (l .inv .2) w r)))
+    let (clock, late) = l .inv .1 in
+    (l .inv .0, rw e at (late-fires (a .k) clock s late (waiting-fires (a .k) s (l .left) (a .row .now) (l .inv .2) w r)))
 
 loop-again : tie.Need-loop-again Inv-loop μ-loop
 loop-again c =

@@ -1,4 +1,4 @@
--- Whom it is left to wake of the present state is whom it was to wake of the first. Assumes nothing.
+-- Whom it is left to wake of the present state is whom it was to wake of the first.
 use Prim.Native.Nat.{ℕ, _<_, _-_}
 use mathlib.Core.Path.{_≡_, refl, sym, ap, _∙_}
 use mathlib.Core.Bool.{true, false}
@@ -11,7 +11,7 @@ use Rattle.tables.specs.Columns.{CLOCK}
 use Rattle.tables.specs.State.{State, head, view, Room}
 use Rattle.rules.specs.Calls.{nextOverdue, rouse}
 use Rattle.rules.specs.Terms.{TIMEOUT}
-use Rattle.rules.proofs.Clock.{rouse-step, rouse-zero, wake-clock}
+use Rattle.rules.proofs.Kept.Clock.{rouse-step, rouse-zero, wake-clock}
 use Rattle.endings.specs.Asked.{Raised}
 use Rattle.endings.proofs.EndingLaws.{late-short, rouse-ends, rouse-turn}
 use borrow.Author.Needs.{needs}
@@ -39,7 +39,8 @@ returns c = let a = c .before .before .before .before .before .before .before .b
 wake-requires : tie.Need-wake-requires Inv-loop μ-loop
 wake-requires c κs = let a = c .before .before .before .before .before .before .before .before .before .before .args in
     let l = c .before .before .before .before .before .loop in
-    (l .inv .0, late-short (a .k) (l .inv .1 .0) (view (a .k) (l .t) (a .p .now)) (l .inv .1 .1) .queued)
+    let (clock, late) = l .inv .1 in
+    (l .inv .0, late-short (a .k) clock (view (a .k) (l .t) (a .p .now)) late .queued)
 
 loop-again : tie.Need-loop-again Inv-loop μ-loop
 loop-again c = let a = c .before .before .before .before .before .before .before .before .before .before .before .before .before .args in

@@ -1,4 +1,4 @@
--- The monitor is the slot's, or not. Assumes nothing.
+-- The monitor is the slot's, or not.
 use Prim.Native.Nat.{suc}
 use mathlib.Core.Path.{_≡_, refl}
 use mathlib.Core.Bool.{true, false}

@@ -1,4 +1,4 @@
--- The timer is the slot's, or not. Assumes nothing.
+-- The timer is the slot's, or not.
 use Prim.Native.Nat.{suc}
 use mathlib.Core.Path.{_≡_, refl}
 use mathlib.Core.Bool.{true, false}

@@ -1,4 +1,4 @@
--- Watcher and id are those of before the monitor ended. Assumes nothing.
+-- Watcher and id are those of before the monitor ended.
 use Prim.Native.Nat.{suc}
 use mathlib.Core.Path.{_≡_}
 use mathlib.Core.Bool.{true}
@@ -7,7 +7,7 @@ use lib.Dec.{eqb}
 use borrow.Author.Tests.{eq-eqb}
 use Rattle.tables.specs.Columns.{WATCHED}
 use Rattle.tables.specs.State.{at, view}
-use Rattle.rules.proofs.ExitLaws.{cutMonitor-yes}
+use Rattle.rules.proofs.Kept.Exit.{cutMonitor-yes}
 use Rattle.endings.specs.Counted.{toldOf}
 use Rattle.endings.proofs.EndingLaws.{going-short, unwatch-short, watcher-below}
 use borrow.Author.Needs.{needs}
@@ -18,42 +18,42 @@ sub-tell : tie.Need-sub-tell
 sub-tell c = let a = c .before .before .before .before .before .before .before .before .before .before .before .before .before .before .before .args in
     let h = c .before .before .before .before .before .before .before .before .before .before .before .before .before .before .before .pre in
     let s = view (a .k) (a .t .now) (a .p .now) in
-    let w = watcher-below (a .k) (a .a) (a .me) s (h .1) (a .i) (h .2) (h .3) in
+    let w = watcher-below (a .k) (a .a) (a .me) s (h .1 .0) (a .i) (h .1 .1) (h .1 .2) in
     omega (arith, c .before .before .before .before .before .before .before .before .before .before .get .ensures, w .0)
 
 mul-tell : tie.Need-mul-tell
 mul-tell c = let a = c .before .before .before .before .before .before .before .before .before .before .before .before .before .before .before .args in
     let h = c .before .before .before .before .before .before .before .before .before .before .before .before .before .before .before .pre in
     let s = view (a .k) (a .t .now) (a .p .now) in
-    let w = watcher-below (a .k) (a .a) (a .me) s (h .1) (a .i) (h .2) (h .3) in
+    let w = watcher-below (a .k) (a .a) (a .me) s (h .1 .0) (a .i) (h .1 .1) (h .1 .2) in
     omega (arith, c .before .before .before .before .before .before .before .get2 .ensures, w .2)
 
 add-tell : tie.Need-add-tell
 add-tell c = let a = c .before .before .before .before .before .before .before .before .before .before .before .before .before .before .before .args in
     let h = c .before .before .before .before .before .before .before .before .before .before .before .before .before .before .before .pre in
     let s = view (a .k) (a .t .now) (a .p .now) in
-    let w = watcher-below (a .k) (a .a) (a .me) s (h .1) (a .i) (h .2) (h .3) in
-    omega (arith, c .before .before .before .before .before .before .before .get2 .ensures, w .2, h .2, h .0 .caps .fewMonitors)
+    let w = watcher-below (a .k) (a .a) (a .me) s (h .1 .0) (a .i) (h .1 .1) (h .1 .2) in
+    omega (arith, c .before .before .before .before .before .before .before .get2 .ensures, w .2, h .1 .1, h .0 .caps .fewMonitors)
 
 cast-tell : tie.Need-cast-tell
 cast-tell c = let a = c .before .before .before .before .before .before .before .before .before .before .before .before .before .before .before .args in
     let h = c .before .before .before .before .before .before .before .before .before .before .before .before .before .before .before .pre in
     let s = view (a .k) (a .t .now) (a .p .now) in
-    let w = watcher-below (a .k) (a .a) (a .me) s (h .1) (a .i) (h .2) (h .3) in
-    omega (arith, c .before .before .before .before .before .before .before .get2 .ensures, w .2, h .2, h .0 .caps .fewMonitors)
+    let w = watcher-below (a .k) (a .a) (a .me) s (h .1 .0) (a .i) (h .1 .1) (h .1 .2) in
+    omega (arith, c .before .before .before .before .before .before .before .get2 .ensures, w .2, h .1 .1, h .0 .caps .fewMonitors)
 
 tell-requires : tie.Need-tell-requires
 tell-requires c κs = let a = c .before .before .before .before .before .before .before .before .before .before .before .before .before .before .before .args in
     let h = c .before .before .before .before .before .before .before .before .before .before .before .before .before .before .before .pre in
     let s = view (a .k) (a .t .now) (a .p .now) in
-    let w = watcher-below (a .k) (a .a) (a .me) s (h .1) (a .i) (h .2) (h .3) in
+    let w = watcher-below (a .k) (a .a) (a .me) s (h .1 .0) (a .i) (h .1 .1) (h .1 .2) in
     let d = c .before .before .before .before .unwatch in
-    (d .ensures .room, rw (d .ensures .is) (unwatch-short s (a .i) (going-short (a .k) (a .a) (a .me) s (h .1))), omega (arith, c .before .before .before .before .before .before .before .before .before .before .get .ensures, w .1), h .4)
+    (d .ensures .room, (rw (d .ensures .is) (unwatch-short s (a .i) (going-short (a .k) (a .a) (a .me) s (h .1 .0))), omega (arith, c .before .before .before .before .before .before .before .before .before .before .get .ensures, w .1), h .1 .3))
 
 returns : tie.Need-returns
 returns c = let a = c .before .before .before .before .before .before .before .before .before .before .before .before .before .before .before .before .before .before .before .before .args in
     let s = view (a .k) (a .t .now) (a .p .now) in
-    let q : eqb (at s WATCHED (a .i)) (suc (a .a)) ≡ true = eq-eqb (at s WATCHED (a .i)) (suc (a .a)) (c .before .before .before .before .before .before .before .before .before .before .before .before .before .before .before .before .before .before .before .before .pre .3) in
+    let q : eqb (at s WATCHED (a .i)) (suc (a .a)) ≡ true = eq-eqb (at s WATCHED (a .i)) (suc (a .a)) (c .before .before .before .before .before .before .before .before .before .before .before .before .before .before .before .before .before .before .before .before .pre .1 .2) in
     rw (cutMonitor-yes (a .k) (a .a) (a .me) (a .reason) (a .i) (toldOf (a .n) s) q) (rw (c .before .before .before .before .before .before .before .before .before .unwatch .ensures .is, c .before .before .before .before .before .before .before .before .before .before .before .before .before .before .before .get .ensures, c .before .before .before .before .before .before .before .before .before .before .before .before .get2 .ensures) at (c .before .before .before .before .tell .ensures))
 
 pub cut-eye-spec : {M : Type 1} → statement M

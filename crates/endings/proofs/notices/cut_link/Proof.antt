@@ -1,4 +1,4 @@
--- The row has a link with the slot, or not. Assumes nothing.
+-- The row has a link with the slot, or not.
 use mathlib.Core.Path.{_≡_, refl}
 use mathlib.Core.Bool.{true, false}
 use native.Mathlib.Omega.{arith}
@@ -24,7 +24,7 @@ tell-requires c κs =
     let d = c .before .before .before .before .tie in
     let s = c .before .before .before .before .before .before .before .before .before .before .before in
     let a = s .args in
-    (d .ensures .room, rw (d .ensures .is) (tie-short (view (a .k) (a .t .now) (a .p .now)) _ 0 0 (s .pre .1)), omega (arith, s .pre .2), s .pre .3)
+    (d .ensures .room, (rw (d .ensures .is) (tie-short (view (a .k) (a .t .now) (a .p .now)) _ 0 0 (s .pre .1 .0)), omega (arith, s .pre .1 .1), s .pre .1 .2))
 
 returns-2 : tie.Need-returns-2
 unfolding cutEntry

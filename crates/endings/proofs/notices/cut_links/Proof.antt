@@ -1,4 +1,4 @@
--- State and counts are those with the links to the slots below b cut. Assumes nothing.
+-- State and counts are those with the links to the slots below b cut.
 use Prim.Native.Nat.{suc, _≤_, _<_, _-_}
 use mathlib.Core.Path.{_≡_, refl, ap}
 use native.Mathlib.Numerals.{add-one}
@@ -8,10 +8,10 @@ use Rattle.tables.specs.Columns.{LINK-ONE, LINK-TWO}
 use Rattle.tables.specs.Limits.{MOST-ACTORS}
 use Rattle.tables.specs.State.{view, Room}
 use Rattle.rules.specs.Calls.{Told, told, cutLink, cutLinks}
-use Rattle.endings.specs.Asked.{Going}
+use Rattle.rules.specs.Good.{Going}
 use Rattle.endings.specs.Counted.{Few, toldOf}
 use Rattle.endings.specs.Partners.{Partners, cutEntry}
-use Rattle.endings.proofs.EndingLaws.{going-short, link-more, links-going, links-step, tells-told}
+use Rattle.endings.proofs.EndingLaws.{going-short, link-more, links-going, links-step, tells-told, told-tells}
 use Rattle.endings.proofs.PartnerLaws.{cut-row}
 use borrow.Author.Needs.{needs}
 use Rattle.endings.proofs.notices.cut_links.Statement.{statement}
@@ -36,7 +36,7 @@ cut-link-requires c κs =
     let e : view (a .k) (l .t) (l .p) ≡ cutLinks (a .k) (a .a) (a .me) (a .reason) (l .b) (told 0 0 v) .state = ap (λ (u : Told). u .state) (l .inv .3) in
     let g : Going (a .k) (a .a) (a .me) (view (a .k) (l .t) (l .p)) = rw e (links-going (a .k) (a .a) (a .me) v (s .pre .1) (a .reason) (l .b)) in
     let o : l .b < MOST-ACTORS = omega (arith, s .pre .0 .caps .fewActors) in
-    (l .inv .0, going-short (a .k) (a .a) (a .me) (view (a .k) (l .t) (l .p)) g, o, record { sent = omega (arith, l .inv .4 .sent); lost = omega (arith, l .inv .4 .lost) })
+    (l .inv .0, (going-short (a .k) (a .a) (a .me) (view (a .k) (l .t) (l .p)) g, o, record { sent = omega (arith, l .inv .4 .sent); lost = omega (arith, l .inv .4 .lost) }))
 
 loop-again : tie.Need-loop-again Inv-loop μ-loop
 loop-again c =
@@ -67,9 +67,8 @@ returns c =
     let s = c .before .before .before .before .before .before .before in
     let a = s .args in
     let e : l .b ≡ a .k .actors = omega arith in
-    let f = rw e at (l .inv .3) in
     let o : a .k .actors ≤ MOST-ACTORS = s .pre .0 .caps .fewActors in (
-      record { sent = ap (λ (u : Told). u .sent) f; lost = ap (λ (u : Told). u .lost) f; left = record { is = ap (λ (u : Told). u .state) f; room = l .inv .0 } },
+      told-tells (l .inv .0) (rw e at (l .inv .3)),
       record { sent = omega (arith, l .inv .4 .sent); lost = omega (arith, l .inv .4 .lost) },
     )
 

@@ -1,4 +1,4 @@
--- The monitor is on the slot, or not. Assumes nothing.
+-- The monitor is on the slot, or not.
 use Prim.Native.Nat.{suc}
 use mathlib.Core.Path.{_≡_, refl}
 use mathlib.Core.Bool.{false}
@@ -7,7 +7,7 @@ use lib.Dec.{eqb}
 use borrow.Author.Tests.{ne-eqb}
 use Rattle.tables.specs.Columns.{WATCHED}
 use Rattle.tables.specs.State.{at, view}
-use Rattle.rules.proofs.ExitLaws.{cutMonitor-no}
+use Rattle.rules.proofs.Kept.Exit.{cutMonitor-no}
 use Rattle.endings.specs.Counted.{toldOf}
 use borrow.Author.Needs.{needs}
 use Rattle.endings.proofs.notices.cut_monitor.Statement.{statement}
@@ -15,7 +15,7 @@ use Rattle.endings.proofs.notices.cut_monitor.Tie as tie
 
 cut-eye-requires : tie.Need-cut-eye-requires
 cut-eye-requires c κs = let h = c .before .before .before .before .before .before .before .before .pre in
-    (h .0, h .1, h .2, omega (arith, c .before .before .before .get .ensures), h .3)
+    (h .0, (h .1 .0, h .1 .1, omega (arith, c .before .before .before .get .ensures), h .1 .2))
 
 returns-2 : tie.Need-returns-2
 returns-2 c = let a = c .before .before .before .before .before .before .args in

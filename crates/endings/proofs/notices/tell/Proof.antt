@@ -1,9 +1,9 @@
--- There is room, or not. Assumes nothing.
+-- There is room, or not.
 use mathlib.Core.Path.{_≡_, refl, sym, _∙_}
 use mathlib.Core.Bool.{true, false}
 use Rattle.tables.specs.State.{view}
 use Rattle.rules.specs.Actions.{hasRoom}
-use Rattle.rules.proofs.ExitLaws.{tell-lost, tell-sent}
+use Rattle.rules.proofs.Kept.Exit.{tell-lost, tell-sent}
 use Rattle.endings.specs.Counted.{toldOf}
 use borrow.Author.Needs.{needs}
 use Rattle.endings.proofs.notices.tell.Statement.{statement}
@@ -13,7 +13,7 @@ send-exit-requires : tie.Need-send-exit-requires
 send-exit-requires c κs = let a = c .before .before .before .before .before .before .before .before .args in
     let s = view (a .k) (a .t .now) (a .p .now) in
     let q : hasRoom (a .k) s ≡ true = sym (c .before .before .before .has-room .ensures) ∙ c .before .before .if1 .taken in
-    (c .before .before .before .before .before .before .before .before .pre .0, q, c .before .before .before .before .before .before .before .before .pre .1, c .before .before .before .before .before .before .before .before .pre .2)
+    (c .before .before .before .before .before .before .before .before .pre .0, (q, c .before .before .before .before .before .before .before .before .pre .1 .0, c .before .before .before .before .before .before .before .before .pre .1 .1))
 
 returns : tie.Need-returns
 returns c = let a = c .before .before .before .before .before .before .before .before .before .before .before .before .before .before .args in

@@ -1,4 +1,4 @@
--- The slot has no place, or its place is free, or it is not. Assumes nothing.
+-- The slot has no place, or its place is free, or it is not.
 use Prim.Native.Nat.{_-_}
 use native.Mathlib.Omega.{arith}
 use borrow.Author.Needs.{needs}

@@ -1,4 +1,4 @@
--- The three arms. Assumes nothing.
+-- The three arms.
 use borrow.Author.Tests.{eq-eqb, ne-eqb}
 use Rattle.endings.proofs.partners.other_end.Statement.{statement}
 use Rattle.endings.proofs.partners.other_end.Tie as tie

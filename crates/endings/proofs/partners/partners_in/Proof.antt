@@ -1,4 +1,4 @@
--- The row has the links below e. Assumes nothing.
+-- The row has the links below e.
 use Prim.Native.Nat.{_≤_, _-_}
 use mathlib.Core.Path.{_≡_, _∙_}
 use native.Mathlib.Omega.{arith}

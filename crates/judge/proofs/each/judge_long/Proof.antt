@@ -1,4 +1,4 @@
--- `judge::each::judge_long` meets its contract: a call with a payload of that length is answered as the one that is made, for both are too long; the record is compared with the one that the writer writes. Assumes nothing.
+-- `judge::each::judge_long` meets its contract: a call with a payload of that length is answered as the one that is made, for both are too long; the record is compared with the one that the writer writes.
 use Prim.Native.Nat.{ℕ}
 use native.Mathlib.Omega.{arith}
 use lib.ListN.{length-replicate, replicate}

@@ -1,4 +1,4 @@
--- `judge::each::judge_next` meets its contract: the call is made, its signed answer taken as the number that is recorded, and the record is compared with the one that the writer writes of it. Assumes nothing.
+-- `judge::each::judge_next` meets its contract: the call is made, its signed answer taken as the number that is recorded, and the record is compared with the one that the writer writes of it.
 use mathlib.Core.Path.{ap, _∙_}
 use mir.Syntax.{w64}
 use mir.Val.{SFits}

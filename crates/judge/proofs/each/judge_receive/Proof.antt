@@ -1,4 +1,4 @@
--- `judge::each::judge_receive` meets its contract: the call is made with the wait as a signed number, and the record is compared with the one that the writer writes of it. Assumes nothing.
+-- `judge::each::judge_receive` meets its contract: the call is made with the wait as a signed number, and the record is compared with the one that the writer writes of it.
 use Prim.Native.Nat.{_<_, _^_}
 use mathlib.Core.Path.{_∙_}
 use mir.Syntax.{w64}

@@ -1,4 +1,4 @@
--- `judge::each::judge_report` meets its contract: the call is made, and the record is compared with the one that the writer writes of its six numbers. Assumes nothing.
+-- `judge::each::judge_report` meets its contract: the call is made, and the record is compared with the one that the writer writes of its six numbers.
 use mathlib.Core.Path.{_≡_}
 use lib.ListN.{length}
 use borrow.Author.Needs.{needs}

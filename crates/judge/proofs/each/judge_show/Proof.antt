@@ -1,4 +1,4 @@
--- `judge::each::judge_show` meets its contract: the record is compared with the one that the writer writes of the part shown: whole, or its length alone where it is over 252. Assumes nothing.
+-- `judge::each::judge_show` meets its contract: the record is compared with the one that the writer writes of the part shown: whole, or its length alone where it is over 252.
 use borrow.Author.Needs.{needs}
 use Rattle.trace.specs.Kinds.{encode}
 use Rattle.judge.proofs.CallLaws.{judged-over, judged-shown}

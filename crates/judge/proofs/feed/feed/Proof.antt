@@ -1,4 +1,4 @@
--- `judge::feed::feed` meets its contract: each turn judges one record, and the loop ends at a wrong one or where no whole one is left. Assumes nothing.
+-- `judge::feed::feed` meets its contract: each turn judges one record, and the loop ends at a wrong one or where no whole one is left.
 use Prim.Native.Nat.{_-_}
 use lib.ListN.{length}
 use borrow.Author.Needs.{needs}

@@ -1,4 +1,4 @@
--- `judge::feed::keep` meets its contract: each turn moves one byte, and those that are still to be moved are as they were. Assumes nothing.
+-- `judge::feed::keep` meets its contract: each turn moves one byte, and those that are still to be moved are as they were.
 use Prim.Native.Nat.{_-_, _≤_}
 use native.Mathlib.Omega.{arith}
 use mathlib.Core.Path.{_≡_, refl}

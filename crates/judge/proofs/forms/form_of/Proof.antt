@@ -1,4 +1,4 @@
--- `judge::forms::form_of` meets its contract: the three tables hold what the rows of the kinds say, and an unknown kind has no row. Assumes nothing.
+-- `judge::forms::form_of` meets its contract: the three tables hold what the rows of the kinds say, and an unknown kind has no row.
 use Prim.Native.Nat.{_-_}
 use native.Mathlib.Omega.{arith}
 use mathlib.Core.Path.{sym, ap}

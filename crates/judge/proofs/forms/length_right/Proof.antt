@@ -1,4 +1,4 @@
--- `judge::forms::length_right` meets its contract: the two lengths, by the form of the kind and by the header, are those of the definition. Assumes nothing.
+-- `judge::forms::length_right` meets its contract: the two lengths, by the form of the kind and by the header, are those of the definition.
 use mathlib.Core.Path.{sym}
 use denote.Ref.{now}
 use borrow.Author.Needs.{needs}

@@ -1,4 +1,4 @@
--- `judge::forms::text_length` meets its contract: the last number before the text is its length, unless it is over the most that is recorded. Assumes nothing.
+-- `judge::forms::text_length` meets its contract: the last number before the text is its length, unless it is over the most that is recorded.
 use native.Mathlib.Omega.{arith}
 use mathlib.Core.Path.{sym, _∙_}
 use denote.Ref.{now}

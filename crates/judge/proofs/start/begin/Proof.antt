@@ -1,4 +1,4 @@
--- `judge::start::begin` meets its contract: the start is made where the recorded lengths allow it, and else it is refused and nothing changes. Assumes nothing.
+-- `judge::start::begin` meets its contract: the start is made where the recorded lengths allow it, and else it is refused and nothing changes.
 use borrow.Author.Needs.{needs}
 use Rattle.judge.proofs.StartLaws.{began-no, began-yes}
 use Rattle.judge.proofs.start.begin.Statement.{statement}

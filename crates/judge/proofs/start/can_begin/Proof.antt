@@ -1,9 +1,9 @@
--- `judge::start::can_begin` meets its contract: the tests are those of the definition. Assumes nothing.
+-- `judge::start::can_begin` meets its contract: the tests are those of the definition.
 use mathlib.Core.Path.{sym, _∙_}
 use borrow.Author.Needs.{needs}
 use Rattle.rules.specs.Sound.{rangeRule}
-use Rattle.rules.proofs.RuleLaws.{reads}
-use Rattle.rules.proofs.SoundLaws.{range-of}
+use Rattle.rules.proofs.Kept.Rules.{reads}
+use Rattle.rules.proofs.Kept.Sound.{range-of}
 use Rattle.judge.proofs.start.can_begin.Statement.{statement}
 use Rattle.judge.proofs.start.can_begin.Tie as tie
 

@@ -1,4 +1,4 @@
--- `judge::start::judge_start` meets its contract: the start is made, and its record compared with the one that the writer writes of it; a first one that was refused is wrong. Assumes nothing.
+-- `judge::start::judge_start` meets its contract: the start is made, and its record compared with the one that the writer writes of it; a first one that was refused is wrong.
 use borrow.Author.Needs.{needs}
 use Rattle.trace.specs.Kinds.{encode}
 use Rattle.judge.proofs.StartLaws.{begun-not, begun-on}

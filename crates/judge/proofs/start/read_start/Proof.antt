@@ -1,4 +1,4 @@
--- `judge::start::read_start` meets its contract: each of the eight numbers is read where it stands. Assumes nothing.
+-- `judge::start::read_start` meets its contract: each of the eight numbers is read where it stands.
 use borrow.Author.Needs.{needs}
 use Rattle.judge.proofs.start.read_start.Statement.{statement}
 use Rattle.judge.proofs.start.read_start.Tie as tie

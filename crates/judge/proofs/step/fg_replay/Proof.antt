@@ -1,4 +1,4 @@
--- `judge::step::fg_replay` meets its contract: a record that is too short, or not as long as its kind asks, asks for nothing; any other is judged as what it asks. Assumes nothing.
+-- `judge::step::fg_replay` meets its contract: a record that is too short, or not as long as its kind asks, asks for nothing; any other is judged as what it asks.
 use borrow.Author.Needs.{needs}
 use Rattle.judge.proofs.ArmLaws.{none-formed, none-short, of-kind, still}
 use Rattle.judge.proofs.step.fg_replay.Statement.{statement}

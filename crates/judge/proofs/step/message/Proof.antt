@@ -1,4 +1,4 @@
--- `judge::step::message` meets its contract: the numbers are read where they stand, and the payload stands whole in the record or is too long to be there. Assumes nothing.
+-- `judge::step::message` meets its contract: the numbers are read where they stand, and the payload stands whole in the record or is too long to be there.
 use native.Mathlib.Omega.{arith}
 use borrow.Author.Needs.{needs}
 use Rattle.trace.specs.Kinds.{rowOf}

@@ -1,4 +1,4 @@
--- `judge::step::other` meets its contract: a kind that is below or past all others asks for nothing; the rest are one range or the other. Assumes nothing.
+-- `judge::step::other` meets its contract: a kind that is below or past all others asks for nothing; the rest are one range or the other.
 use borrow.Author.Needs.{needs}
 use Rattle.judge.proofs.ArmLaws.{below, none-below, none-past, still}
 use Rattle.judge.proofs.step.other.Statement.{statement}

@@ -1,4 +1,4 @@
--- `judge::step::receive` meets its contract: the four numbers are read where they stand, and the call is made with them. Assumes nothing.
+-- `judge::step::receive` meets its contract: the four numbers are read where they stand, and the call is made with them.
 use native.Mathlib.Omega.{arith}
 use borrow.Author.Needs.{needs}
 use Rattle.trace.specs.Kinds.{rowOf}

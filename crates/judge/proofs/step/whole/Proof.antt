@@ -1,4 +1,4 @@
--- `judge::step::whole` meets its contract: a start is judged as one; any other record is wrong if it is the first, and else judged by its kind. Assumes nothing.
+-- `judge::step::whole` meets its contract: a start is judged as one; any other record is wrong if it is the first, and else judged by its kind.
 use native.Mathlib.Omega.{arith}
 use denote.Ref.{now}
 use borrow.Author.Tests.{eq-eqb, ne-eqb}

@@ -1,4 +1,4 @@
--- The loop keeps: no entry below i is free. Assumes nothing.
+-- The loop keeps: no entry below i is free.
 use mathlib.Core.Path.{_≡_, sym, _∙_}
 use mathlib.Core.Bool.{false}
 use Prim.Native.Nat.{ℕ, _-_, _≤_, _<_}

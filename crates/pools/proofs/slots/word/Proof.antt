@@ -1,4 +1,4 @@
--- Past the end a column reads 0. Assumes nothing.
+-- Past the end a column reads 0.
 use mathlib.Core.Path.{sym}
 use lib.ListN.{List·getD-eq-default}
 use borrow.Author.Needs.{needs}

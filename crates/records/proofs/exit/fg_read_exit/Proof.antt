@@ -1,4 +1,4 @@
--- What passes the test has room for the fields; the loads are the fields. Assumes nothing.
+-- What passes the test has room for the fields; the loads are the fields.
 use mathlib.Core.Bool.{true, false}
 use mathlib.Core.Path.{_≡_, _∙_, sym}
 use native.Mathlib.Omega.{arith}

@@ -1,4 +1,4 @@
--- Four stores, each where the last one ended, are one. Assumes nothing.
+-- Four stores, each where the last one ended, are one.
 use mathlib.Core.List.{_++_}
 use denote.Ref.{now}
 use borrow.Author.Needs.{needs}

@@ -1,4 +1,4 @@
--- What passes the test has room for the id; the load is the id. Assumes nothing.
+-- What passes the test has room for the id; the load is the id.
 use mathlib.Core.Bool.{true, false}
 use mathlib.Core.Path.{_≡_, _∙_, sym}
 use native.Mathlib.Omega.{arith}

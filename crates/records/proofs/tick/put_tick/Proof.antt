@@ -1,4 +1,4 @@
--- Two stores, one after the other, are one. Assumes nothing.
+-- Two stores, one after the other, are one.
 use mathlib.Core.List.{_++_}
 use denote.Ref.{now}
 use borrow.Author.Needs.{needs}

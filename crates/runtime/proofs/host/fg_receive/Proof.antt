@@ -1,9 +1,9 @@
--- `runtime::host::fg_receive` meets its contract: the test said yes, and the call followed its rule; or no, and nothing changed. Assumes nothing.
+-- `runtime::host::fg_receive` meets its contract: the test said yes, and the call followed its rule; or no, and nothing changed.
 use mir.Syntax.{w64}
 use mir.ValLaws.{toZ-ofZ}
 use borrow.Author.Needs.{needs}
 use Rattle.ledger.specs.Call.Op.{receive}
-use Rattle.rules.proofs.HostLaws.{called-ready, meets-no, meets-yes}
+use Rattle.rules.proofs.Stories.Host.{called-ready, meets-no, meets-yes}
 use Rattle.runtime.proofs.host.fg_receive.Statement.{statement}
 use Rattle.runtime.proofs.host.fg_receive.Tie as tie
 

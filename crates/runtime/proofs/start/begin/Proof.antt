@@ -1,4 +1,4 @@
--- `runtime::start::begin` meets its contract: one part after the other. Assumes nothing.
+-- `runtime::start::begin` meets its contract: one part after the other.
 use Rattle.rules.specs.Host.{fresh}
 use borrow.Author.Needs.{needs}
 use Rattle.runtime.proofs.start.begin.Statement.{statement}

@@ -1,4 +1,4 @@
--- `runtime::start::clear` meets its contract. Assumes nothing.
+-- `runtime::start::clear` meets its contract.
 use native.Mathlib.Omega.{arith}
 use Rattle.runtime.proofs.StartLaws.{view-zeroed, room-zeroed}
 use borrow.Author.Needs.{needs}

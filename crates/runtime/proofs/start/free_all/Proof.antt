@@ -1,4 +1,4 @@
--- `runtime::start::free_all` meets its contract: one store after the other. Assumes nothing.
+-- `runtime::start::free_all` meets its contract: one store after the other.
 use Rattle.rules.specs.Host.{freed}
 use borrow.Author.Needs.{needs}
 use Rattle.runtime.proofs.start.free_all.Statement.{statement}

@@ -1,4 +1,4 @@
--- `runtime::start::ones_at` meets its contract. Assumes nothing.
+-- `runtime::start::ones_at` meets its contract.
 use Prim.Native.Nat.{_-_, _*_, _<_, min}
 use native.Mathlib.Omega.{arith}
 use mathlib.Core.Path.{_≡_}

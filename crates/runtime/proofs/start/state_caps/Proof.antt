@@ -1,4 +1,4 @@
--- `runtime::start::state_caps` meets its contract: one store after the other. Assumes nothing.
+-- `runtime::start::state_caps` meets its contract: one store after the other.
 use Rattle.rules.specs.Host.{stated}
 use borrow.Author.Needs.{needs}
 use Rattle.runtime.proofs.start.state_caps.Statement.{statement}

@@ -1,4 +1,4 @@
--- `runtime::start::zero_words` meets its contract. Assumes nothing.
+-- `runtime::start::zero_words` meets its contract.
 use Prim.Native.Nat.{ℕ, _-_, _≤_}
 use native.Mathlib.Nat.{zero-add}
 use native.Mathlib.Omega.{arith}

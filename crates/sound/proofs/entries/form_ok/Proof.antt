@@ -1,4 +1,4 @@
--- `sound::entries::form_ok` meets its contract. Assumes nothing.
+-- `sound::entries::form_ok` meets its contract.
 use Rattle.sound.proofs.SlotLaws.{form-free, form-used}
 use Rattle.sound.proofs.entries.form_ok.Statement.{statement}
 use Rattle.sound.proofs.entries.form_ok.Tie as tie

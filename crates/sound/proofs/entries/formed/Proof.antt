@@ -1,4 +1,4 @@
--- `sound::entries::formed` meets its contract. Assumes nothing.
+-- `sound::entries::formed` meets its contract.
 use borrow.Author.Needs.{needs}
 use Rattle.sound.proofs.entries.formed.Statement.{statement}
 use Rattle.sound.proofs.entries.formed.Tie as tie

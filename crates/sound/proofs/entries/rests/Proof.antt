@@ -1,4 +1,4 @@
--- `sound::entries::rests` meets its contract. Assumes nothing.
+-- `sound::entries::rests` meets its contract.
 use mathlib.Core.Path.{_∙_}
 use Rattle.sound.proofs.SlotLaws.{or-four}
 use borrow.Author.Needs.{needs}

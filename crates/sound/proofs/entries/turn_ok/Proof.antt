@@ -1,4 +1,4 @@
--- `sound::entries::turn_ok` meets its contract. Assumes nothing.
+-- `sound::entries::turn_ok` meets its contract.
 use native.Mathlib.Numerals.{add-one}
 use borrow.Author.Needs.{needs}
 use Rattle.sound.proofs.entries.turn_ok.Statement.{statement}

@@ -1,4 +1,4 @@
--- `sound::entries::waiting_ok` meets its contract. Assumes nothing.
+-- `sound::entries::waiting_ok` meets its contract.
 use mathlib.Core.Path.{_∙_}
 use Rattle.sound.proofs.SlotLaws.{waits-yes, waits-no}
 use Rattle.tables.specs.State.{view}

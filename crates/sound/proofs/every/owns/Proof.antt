@@ -1,10 +1,10 @@
--- `sound::every::owns` meets its contract. Assumes nothing.
+-- `sound::every::owns` meets its contract.
 use native.Mathlib.Omega.{arith}
 use Prim.Native.Nat.{_≤_, _-_}
 use mathlib.Core.Path.{_≡_}
 use Rattle.rules.specs.Rule.{test, each}
 use Rattle.sound.specs.Kinds.{ownRule}
-use Rattle.rules.proofs.RuleLaws.{all-more, all-none}
+use Rattle.rules.proofs.Kept.Rules.{all-more, all-none}
 use Rattle.tables.specs.State.{view}
 use borrow.Author.Needs.{needs}
 use Rattle.sound.proofs.every.owns.Statement.{statement}

@@ -1,8 +1,8 @@
--- `sound::every::slots` meets its contract. Assumes nothing.
+-- `sound::every::slots` meets its contract.
 use native.Mathlib.Omega.{arith}
 use mathlib.Core.Path.{_∙_}
 use lib.Dec.{lit<}
-use Rattle.rules.proofs.RuleLaws.{and-same}
+use Rattle.rules.proofs.Kept.Rules.{and-same}
 use Rattle.sound.proofs.ListLaws.{list-at}
 use Rattle.sound.proofs.SlotLaws.{slot-parts}
 use Rattle.tables.specs.Columns.{QUEUE}

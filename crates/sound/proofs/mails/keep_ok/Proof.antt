@@ -1,4 +1,4 @@
--- `sound::mails::keep_ok` meets its contract. Assumes nothing.
+-- `sound::mails::keep_ok` meets its contract.
 use Prim.Native.Nat.{ℕ, _-_}
 use mathlib.Core.Path.{sym, ap, _∙_}
 use Rattle.rules.specs.Terms.{awaits}

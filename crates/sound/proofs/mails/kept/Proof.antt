@@ -1,4 +1,4 @@
--- `sound::mails::kept` meets its contract. Assumes nothing.
+-- `sound::mails::kept` meets its contract.
 use borrow.Author.Needs.{needs}
 use Rattle.sound.proofs.mails.kept.Statement.{statement}
 use Rattle.sound.proofs.mails.kept.Tie as tie

@@ -1,9 +1,9 @@
--- The entries of the run before e keep their rule. Assumes nothing.
+-- The entries of the run before e keep their rule.
 use native.Mathlib.Omega.{arith}
 use Prim.Native.Nat.{_≤_, _-_}
 use mathlib.Core.Path.{_≡_, _∙_}
 use Rattle.rules.specs.Rule.{test, each, imp, le}
-use Rattle.rules.proofs.RuleLaws.{and-same}
+use Rattle.rules.proofs.Kept.Rules.{and-same}
 use Rattle.sound.specs.Kinds.{keptRule}
 use Rattle.sound.proofs.MailLaws.{each-next, each-past}
 use Rattle.tables.specs.State.{view}
@@ -25,7 +25,7 @@ loop-holds c =
 kept-ok-requires : tie.Need-kept-ok-requires Inv-loop μ-loop
 kept-ok-requires c κs =
     let s = c .before .before .before .before .before .before .before in
-    (s .pre .0, s .pre .1, omega (arith, s .pre .3))
+    (s .pre .0, (s .pre .1 .0, omega (arith, s .pre .1 .2)))
 
 loop-again : tie.Need-loop-again Inv-loop μ-loop
 loop-again c =

@@ -1,10 +1,10 @@
--- The entries before the run of word j keep their rule. Assumes nothing.
+-- The entries before the run of word j keep their rule.
 use native.Mathlib.Omega.{arith}
 use Prim.Native.Nat.{_*_, _-_, min}
 use mathlib.Core.Path.{_≡_, _∙_}
 use Rattle.pools.specs.Bits.{WORD-BITS}
 use Rattle.rules.specs.Rule.{test, each}
-use Rattle.rules.proofs.RuleLaws.{all-none, and-same}
+use Rattle.rules.proofs.Kept.Rules.{all-none, and-same}
 use Rattle.sound.specs.Kinds.{keptRule}
 use Rattle.sound.proofs.MailLaws.{each-on}
 use Rattle.tables.specs.State.{view}
@@ -25,7 +25,7 @@ kept-run-requires : tie.Need-kept-run-requires Inv-loop μ-loop
 kept-run-requires c κs =
     let l = c .before .before .before .loop in
     let s = c .before .before .before .before .before .before .before .before .before in
-    (s .pre .0, s .pre .1, omega (arith, l .inv .0, s .pre .0 .caps .fewMails), l .inv .0, c .least .ensures)
+    (s .pre .0, (s .pre .1, omega (arith, l .inv .0, s .pre .0 .caps .fewMails), l .inv .0, c .least .ensures))
 
 loop-less : tie.Need-loop-less Inv-loop μ-loop
 loop-less c = omega (arith, c .before .least .ensures, c .before .before .before .before .loop .inv .0)

@@ -1,8 +1,8 @@
--- `sound::marks::all_marked` meets its contract. Assumes nothing.
+-- `sound::marks::all_marked` meets its contract.
 use mathlib.Core.Path.{sym, _∙_}
 use Rattle.pools.specs.Bits.{free}
 use Rattle.rules.specs.Rule.{test, imp, is, lt}
-use Rattle.rules.proofs.RuleLaws.{and-same}
+use Rattle.rules.proofs.Kept.Rules.{and-same}
 use Rattle.sound.proofs.MarkLaws.{full-each}
 use Rattle.sound.proofs.WordLaws.{four-words}
 use borrow.Author.Needs.{needs}

@@ -1,4 +1,4 @@
--- `sound::marks::copied` meets its contract. Assumes nothing.
+-- `sound::marks::copied` meets its contract.
 use Rattle.sound.proofs.MarkLaws.{cells}
 use borrow.Author.Needs.{needs}
 use Rattle.sound.proofs.marks.copied.Statement.{statement}

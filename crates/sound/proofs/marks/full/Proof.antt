@@ -1,4 +1,4 @@
--- `sound::marks::full` meets its contract. Assumes nothing.
+-- `sound::marks::full` meets its contract.
 use native.Mathlib.Omega.{arith}
 use mathlib.Core.Path.{refl}
 use Rattle.sound.proofs.MarkLaws.{full-none, full-some}

@@ -1,4 +1,4 @@
--- `sound::marks::mark_up` meets its contract. Assumes nothing.
+-- `sound::marks::mark_up` meets its contract.
 use Rattle.sound.proofs.MarkLaws.{up-none, up-one}
 use borrow.Author.Needs.{needs}
 use Rattle.sound.proofs.marks.mark_up.Statement.{statement}

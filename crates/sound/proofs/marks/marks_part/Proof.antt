@@ -1,4 +1,4 @@
--- `sound::marks::marks_part` meets its contract. Assumes nothing.
+-- `sound::marks::marks_part` meets its contract.
 use Prim.Native.Nat.{suc}
 use mathlib.Core.Path.{sym, _∙_}
 use Rattle.tables.specs.Sizes.{COLUMN-BITS}

@@ -1,4 +1,4 @@
--- `sound::marks::once_ok` meets its contract. Assumes nothing.
+-- `sound::marks::once_ok` meets its contract.
 use native.Mathlib.Omega.{arith}
 use mathlib.Core.Path.{refl}
 use Rattle.sound.proofs.MarkLaws.{queue-below, states-long, once-told}

@@ -1,4 +1,4 @@
--- `sound::marks::ones` meets its contract. Assumes nothing.
+-- `sound::marks::ones` meets its contract.
 use Prim.Native.Nat.{_<_, min}
 use native.Mathlib.Omega.{arith}
 use mathlib.Core.Path.{_≡_}

@@ -1,4 +1,4 @@
--- `sound::marks::resting` meets its contract. Assumes nothing.
+-- `sound::marks::resting` meets its contract.
 use native.Mathlib.Omega.{arith}
 use Prim.Native.Nat.{_≤_, _<_, _-_, _^_}
 use Rattle.sound.specs.Marks.{Resting}

@@ -1,4 +1,4 @@
--- `sound::messages::area_of` meets its contract. Assumes nothing.
+-- `sound::messages::area_of` meets its contract.
 use native.Mathlib.Omega.{arith}
 use Prim.Native.Nat.{ℕ, _-_, _*_}
 use mathlib.Core.Path.{_≡_, ap}

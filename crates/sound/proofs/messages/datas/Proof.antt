@@ -1,4 +1,4 @@
--- `sound::messages::datas` meets its contract. Assumes nothing.
+-- `sound::messages::datas` meets its contract.
 use native.Mathlib.Omega.{arith}
 use lib.Dec.{lit<}
 use Rattle.tables.specs.Columns.{LENGTH, SENDER}

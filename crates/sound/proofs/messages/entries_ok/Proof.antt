@@ -1,10 +1,10 @@
--- The entries below d keep their rule. Assumes nothing.
+-- The entries below d keep their rule.
 use native.Mathlib.Omega.{arith}
 use Prim.Native.Nat.{_≤_, _-_}
 use mathlib.Core.Path.{_≡_}
 use lib.ListN.{getD}
 use Rattle.rules.specs.Rule.{test, each}
-use Rattle.rules.proofs.RuleLaws.{all-more, all-none}
+use Rattle.rules.proofs.Kept.Rules.{all-more, all-none}
 use Rattle.sound.specs.Kinds.{entryRule}
 use borrow.Author.Needs.{needs}
 use Rattle.sound.proofs.messages.entries_ok.Statement.{statement}

@@ -1,7 +1,7 @@
--- `sound::messages::entry_ok` meets its contract. Assumes nothing.
+-- `sound::messages::entry_ok` meets its contract.
 use mathlib.Core.Path.{sym, _∙_}
 use lib.Bits.{bitOr}
-use Rattle.rules.proofs.RuleLaws.{and-same}
+use Rattle.rules.proofs.Kept.Rules.{and-same}
 use Rattle.sound.proofs.PayloadLaws.{or-test, pick-yes, pick-no}
 use borrow.Author.Needs.{needs}
 use Rattle.sound.proofs.messages.entry_ok.Statement.{statement}

@@ -1,4 +1,4 @@
--- `sound::messages::header_ok` meets its contract. Assumes nothing.
+-- `sound::messages::header_ok` meets its contract.
 use native.Mathlib.Omega.{arith}
 use Rattle.sound.proofs.HeaderLaws.{notification-test, record-test}
 use Rattle.sound.proofs.messages.header_ok.Statement.{statement}

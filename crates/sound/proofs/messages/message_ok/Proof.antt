@@ -1,10 +1,10 @@
--- `sound::messages::message_ok` meets its contract. Assumes nothing.
+-- `sound::messages::message_ok` meets its contract.
 use native.Mathlib.Omega.{arith}
 use Prim.Native.Nat.{_+_, _-_}
 use mathlib.Core.Path.{_≡_, sym}
 use denote.Ref.{now}
 use Rattle.rules.specs.Terms.{headerAt}
-use Rattle.rules.proofs.RuleLaws.{and-same, broken}
+use Rattle.rules.proofs.Kept.Rules.{and-same, broken}
 use Rattle.tables.specs.Limits.{ENTRY-BYTES, HEADER-BYTES, PAYLOAD-MOST}
 use Rattle.sound.specs.Kinds.{writtenRule}
 use borrow.Author.Needs.{needs}
@@ -14,7 +14,7 @@ use Rattle.sound.proofs.messages.message_ok.Tie as tie
 returns : tie.Need-returns
 returns c =
     let a = c .before .before .before .args in
-    sym (broken (writtenRule (now (a .area)) (now (a .ages)) (a .sender) (a .len) (a .d)) (λ h. omega (arith, h .0 .1 .0)))
+    sym (broken (writtenRule (now (a .area)) (now (a .ages)) (a .sender) (a .len) (a .d)) (λ ((_, (most, _)), _). omega (arith, most)))
 
 returns-2 : tie.Need-returns-2
 unfolding headerAt

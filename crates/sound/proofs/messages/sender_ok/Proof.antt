@@ -1,4 +1,4 @@
--- `sound::messages::sender_ok` meets its contract. Assumes nothing.
+-- `sound::messages::sender_ok` meets its contract.
 use mathlib.Core.Path.{refl}
 use borrow.Author.Tests.{eq-eqb, ne-eqb}
 use Rattle.sound.proofs.PayloadLaws.{pick-yes, pick-no}

@@ -1,4 +1,4 @@
--- `sound::standing::lives` meets its contract. Assumes nothing.
+-- `sound::standing::lives` meets its contract.
 use native.Mathlib.Omega.{arith}
 use borrow.Author.Tests.{lt-ltb, le-ltb}
 use borrow.Author.Needs.{needs}

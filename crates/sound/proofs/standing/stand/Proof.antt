@@ -1,4 +1,4 @@
--- `sound::standing::stand` meets its contract. Assumes nothing.
+-- `sound::standing::stand` meets its contract.
 use native.Mathlib.Omega.{arith}
 use Prim.Native.Nat.{_≤_, _-_}
 use mathlib.Core.Path.{_≡_}

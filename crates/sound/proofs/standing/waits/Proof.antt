@@ -1,4 +1,4 @@
--- `sound::standing::waits` meets its contract. Assumes nothing.
+-- `sound::standing::waits` meets its contract.
 use native.Mathlib.Omega.{arith}
 use borrow.Author.Tests.{lt-ltb, le-ltb}
 use borrow.Author.Needs.{needs}

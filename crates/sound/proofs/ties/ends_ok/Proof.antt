@@ -1,4 +1,4 @@
--- `sound::ties::ends_ok` meets its contract. Assumes nothing.
+-- `sound::ties::ends_ok` meets its contract.
 use borrow.Author.Needs.{needs}
 use Rattle.sound.proofs.ties.ends_ok.Statement.{statement}
 use Rattle.sound.proofs.ties.ends_ok.Tie as tie

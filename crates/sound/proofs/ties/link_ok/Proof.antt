@@ -1,4 +1,4 @@
--- `sound::ties::link_ok` meets its contract. Assumes nothing.
+-- `sound::ties::link_ok` meets its contract.
 use mathlib.Core.Path.{_≡_, refl, sym, _∙_}
 use mathlib.Core.Bool.{true}
 use Rattle.pools.proofs.BoolLaws.{true-false}

@@ -1,4 +1,4 @@
--- `sound::ties::links_in` meets its contract. Assumes nothing.
+-- `sound::ties::links_in` meets its contract.
 use native.Mathlib.Omega.{arith}
 use Prim.Native.Nat.{_≤_, _-_}
 use mathlib.Core.Path.{_≡_}

@@ -1,4 +1,4 @@
--- `sound::ties::monitor_ok` meets its contract. Assumes nothing.
+-- `sound::ties::monitor_ok` meets its contract.
 use Rattle.sound.proofs.TieLaws.{monitor-none, monitor-used}
 use borrow.Author.Needs.{needs}
 use Rattle.sound.proofs.ties.monitor_ok.Statement.{statement}

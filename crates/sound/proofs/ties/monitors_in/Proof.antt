@@ -1,10 +1,10 @@
--- `sound::ties::monitors_in` meets its contract. Assumes nothing.
+-- `sound::ties::monitors_in` meets its contract.
 use native.Mathlib.Omega.{arith}
 use Prim.Native.Nat.{_≤_, _-_}
 use mathlib.Core.Path.{_≡_}
 use lib.ListN.{getD}
 use Rattle.rules.specs.Rule.{test, each}
-use Rattle.rules.proofs.RuleLaws.{all-more, all-none, and-same}
+use Rattle.rules.proofs.Kept.Rules.{all-more, all-none, and-same}
 use Rattle.sound.specs.Ties.{monitorIn}
 use borrow.Author.Needs.{needs}
 use Rattle.sound.proofs.ties.monitors_in.Statement.{statement}

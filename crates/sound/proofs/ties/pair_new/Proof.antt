@@ -1,4 +1,4 @@
--- `sound::ties::pair_new` meets its contract. Assumes nothing.
+-- `sound::ties::pair_new` meets its contract.
 use borrow.Author.Needs.{needs}
 use Rattle.sound.proofs.ties.pair_new.Statement.{statement}
 use Rattle.sound.proofs.ties.pair_new.Tie as tie

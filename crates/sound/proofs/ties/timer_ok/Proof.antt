@@ -1,4 +1,4 @@
--- `sound::ties::timer_ok` meets its contract. Assumes nothing.
+-- `sound::ties::timer_ok` meets its contract.
 use Rattle.sound.proofs.TieLaws.{timer-none, timer-used}
 use borrow.Author.Needs.{needs}
 use Rattle.sound.proofs.ties.timer_ok.Statement.{statement}

@@ -1,4 +1,4 @@
--- `sound::ties::timers` meets its contract. Assumes nothing.
+-- `sound::ties::timers` meets its contract.
 use native.Mathlib.Omega.{arith}
 use mathlib.Core.Path.{_∙_}
 use lib.Dec.{lit<}

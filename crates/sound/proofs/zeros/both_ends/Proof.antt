@@ -1,9 +1,9 @@
--- `sound::zeros::both_ends` meets its contract. Assumes nothing.
+-- `sound::zeros::both_ends` meets its contract.
 use native.Mathlib.Omega.{arith}
 use Prim.Native.Nat.{_+_, _-_, _*_}
 use mathlib.Core.Path.{_≡_, _∙_}
 use denote.Ref.{now}
-use Rattle.rules.proofs.RuleLaws.{and-same}
+use Rattle.rules.proofs.Kept.Rules.{and-same}
 use Rattle.tables.specs.Limits.{ENTRY-BYTES}
 use Rattle.sound.proofs.PayloadLaws.{or-test}
 use Rattle.sound.proofs.ZeroLaws.{zeros-meet}

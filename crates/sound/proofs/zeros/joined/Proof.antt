@@ -1,11 +1,11 @@
--- The numbers so far, joined, are 0 where their bytes are. Assumes nothing.
+-- The numbers so far, joined, are 0 where their bytes are.
 use native.Mathlib.Omega.{arith}
 use Prim.Native.Nat.{_+_, _*_, _≤_, _-_}
 use mathlib.Core.Path.{_≡_}
 use lib.Dec.{eqb}
 use Rattle.rules.specs.Rule.{test}
 use Rattle.rules.specs.Sound.{zeros}
-use Rattle.rules.proofs.RuleLaws.{all-none, and-same}
+use Rattle.rules.proofs.Kept.Rules.{all-none, and-same}
 use Rattle.sound.proofs.PayloadLaws.{or-test}
 use Rattle.sound.proofs.ZeroLaws.{zeros-after}
 use borrow.Author.Needs.{needs}

@@ -1,7 +1,7 @@
--- `sound::zeros::word_at` meets its contract. Assumes nothing.
+-- `sound::zeros::word_at` meets its contract.
 use mathlib.Core.Path.{sym, _∙_}
 use denote.Ref.{now}
-use Rattle.rules.proofs.RuleLaws.{and-same}
+use Rattle.rules.proofs.Kept.Rules.{and-same}
 use Rattle.sound.proofs.ZeroLaws.{field-zero, joint-zero, zeros-after}
 use borrow.Author.Needs.{needs}
 use Rattle.sound.proofs.zeros.word_at.Statement.{statement}

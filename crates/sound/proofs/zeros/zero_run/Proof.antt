@@ -1,11 +1,11 @@
--- `sound::zeros::zero_run` meets its contract. Assumes nothing.
+-- `sound::zeros::zero_run` meets its contract.
 use native.Mathlib.Omega.{arith}
 use Prim.Native.Nat.{_≤_, _-_}
 use mathlib.Core.Path.{_≡_}
 use lib.Dec.{eqb}
 use Rattle.rules.specs.Rule.{test}
 use Rattle.rules.specs.Sound.{zeros}
-use Rattle.rules.proofs.RuleLaws.{all-more, all-none}
+use Rattle.rules.proofs.Kept.Rules.{all-more, all-none}
 use Rattle.sound.proofs.PayloadLaws.{or-test}
 use borrow.Author.Needs.{needs}
 use Rattle.sound.proofs.zeros.zero_run.Statement.{statement}

@@ -1,4 +1,4 @@
--- `tables::free::count_bits` meets its contract. Assumes nothing.
+-- `tables::free::count_bits` meets its contract.
 use borrow.Author.Needs.{needs}
 use Rattle.tables.proofs.free.count_bits.Statement.{statement}
 use Rattle.tables.proofs.free.count_bits.Tie as tie

@@ -1,4 +1,4 @@
--- `tables::free::count_slots` meets its contract. Assumes nothing.
+-- `tables::free::count_slots` meets its contract.
 use borrow.Author.Needs.{needs}
 use Rattle.tables.proofs.ViewLaws.{view-full}
 use Rattle.tables.proofs.free.count_slots.Statement.{statement}

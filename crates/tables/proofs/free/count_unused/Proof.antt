@@ -1,4 +1,4 @@
--- `tables::free::count_unused` meets its contract. Assumes nothing.
+-- `tables::free::count_unused` meets its contract.
 use borrow.Author.Needs.{needs}
 use Rattle.tables.proofs.ViewLaws.{view-full}
 use Rattle.tables.proofs.free.count_unused.Statement.{statement}

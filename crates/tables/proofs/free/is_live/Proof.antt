@@ -1,4 +1,4 @@
--- `tables::free::is_live` meets its contract. Assumes nothing.
+-- `tables::free::is_live` meets its contract.
 use borrow.Author.Needs.{needs}
 use Rattle.tables.proofs.free.is_live.Statement.{statement}
 use Rattle.tables.proofs.free.is_live.Tie as tie

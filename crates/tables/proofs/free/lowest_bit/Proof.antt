@@ -1,4 +1,4 @@
--- `tables::free::lowest_bit` meets its contract. Assumes nothing.
+-- `tables::free::lowest_bit` meets its contract.
 use borrow.Author.Needs.{needs}
 use Rattle.tables.proofs.free.lowest_bit.Statement.{statement}
 use Rattle.tables.proofs.free.lowest_bit.Tie as tie

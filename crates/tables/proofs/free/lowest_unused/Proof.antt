@@ -1,4 +1,4 @@
--- `tables::free::lowest_unused` meets its contract. Assumes nothing.
+-- `tables::free::lowest_unused` meets its contract.
 use borrow.Author.Needs.{needs}
 use Rattle.tables.proofs.ViewLaws.{view-full}
 use Rattle.tables.proofs.free.lowest_unused.Statement.{statement}

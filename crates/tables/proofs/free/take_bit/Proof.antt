@@ -1,4 +1,4 @@
--- `tables::free::take_bit` meets its contract. Assumes nothing.
+-- `tables::free::take_bit` meets its contract.
 use Prim.Native.Nat.{_+_, _≤_}
 use native.Mathlib.Omega.{arith}
 use mathlib.Core.Path.{refl}

@@ -1,4 +1,4 @@
--- `tables::layout::caps_of` meets its contract. Assumes nothing.
+-- `tables::layout::caps_of` meets its contract.
 use borrow.Author.Needs.{needs}
 use Rattle.tables.proofs.layout.caps_of.Statement.{statement}
 use Rattle.tables.proofs.layout.caps_of.Tie as tie

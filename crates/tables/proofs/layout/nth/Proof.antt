@@ -1,4 +1,4 @@
--- `tables::layout::nth` meets its contract. Assumes nothing.
+-- `tables::layout::nth` meets its contract.
 use Prim.Native.Nat.{_*_, _≤_}
 use native.Mathlib.Nat.{mul-le-mul}
 use native.Mathlib.Omega.{arith}

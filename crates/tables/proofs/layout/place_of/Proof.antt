@@ -1,4 +1,4 @@
--- `tables::layout::place_of` meets its contract: each return is a group of columns of one size. Assumes nothing.
+-- `tables::layout::place_of` meets its contract: each return is a group of columns of one size.
 use native.Mathlib.Omega.{arith}
 use lib.ListN.{take, drop}
 use borrow.Author.Needs.{needs}

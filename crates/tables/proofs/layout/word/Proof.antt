@@ -1,4 +1,4 @@
--- `tables::layout::word` meets its contract. Assumes nothing.
+-- `tables::layout::word` meets its contract.
 use native.Mathlib.Omega.{arith}
 use mathlib.Core.Path.{sym}
 use lib.ListN.{List·getD-eq-default}

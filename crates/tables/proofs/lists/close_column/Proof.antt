@@ -1,4 +1,4 @@
--- `tables::lists::close_column` meets its contract. Assumes nothing.
+-- `tables::lists::close_column` meets its contract.
 use Prim.Native.Nat.{_+_, _≤_}
 use native.Mathlib.Omega.{arith}
 use mathlib.Core.Path.{_≡_, refl, _∙_}

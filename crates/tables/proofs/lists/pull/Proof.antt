@@ -1,4 +1,4 @@
--- `tables::lists::pull` meets its contract. Assumes nothing.
+-- `tables::lists::pull` meets its contract.
 use borrow.Author.Needs.{needs}
 use Rattle.tables.specs.Action.{pull}
 use Rattle.tables.proofs.lists.pull.Statement.{statement}

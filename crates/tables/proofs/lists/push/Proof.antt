@@ -1,4 +1,4 @@
--- `tables::lists::push` meets its contract. Assumes nothing.
+-- `tables::lists::push` meets its contract.
 use borrow.Author.Needs.{needs}
 use Rattle.tables.specs.Action.{push}
 use Rattle.tables.proofs.lists.push.Statement.{statement}

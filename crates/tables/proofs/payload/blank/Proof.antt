@@ -1,4 +1,4 @@
--- `tables::payload::blank` meets its contract. Assumes nothing.
+-- `tables::payload::blank` meets its contract.
 use borrow.Author.Needs.{needs}
 use Rattle.tables.proofs.ViewLaws.{blank-left}
 use Rattle.tables.proofs.payload.blank.Statement.{statement}

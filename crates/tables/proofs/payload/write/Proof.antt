@@ -1,4 +1,4 @@
--- `tables::payload::write` meets its contract. Assumes nothing.
+-- `tables::payload::write` meets its contract.
 use borrow.Author.Needs.{needs}
 use Rattle.tables.proofs.ViewLaws.{write-left}
 use Rattle.tables.proofs.payload.write.Statement.{statement}

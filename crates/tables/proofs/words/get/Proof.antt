@@ -1,4 +1,4 @@
--- `tables::words::get` meets its contract. Assumes nothing.
+-- `tables::words::get` meets its contract.
 use borrow.Author.Needs.{needs}
 use Rattle.tables.proofs.words.get.Statement.{statement}
 use Rattle.tables.proofs.words.get.Tie as tie

@@ -1,4 +1,4 @@
--- `tables::words::put` meets its contract. Assumes nothing.
+-- `tables::words::put` meets its contract.
 use Prim.Native.Nat.{_+_, _<_}
 use native.Mathlib.Omega.{arith}
 use lib.ListN.{length}

@@ -1,4 +1,4 @@
--- `trace::kinds::fg_trace_show` meets its contract: what is written is the record of the call with its answer, or nothing where there is no room; a payload over 252 bytes is recorded by its length alone. Assumes nothing.
+-- `trace::kinds::fg_trace_show` meets its contract: what is written is the record of the call with its answer, or nothing where there is no room; a payload over 252 bytes is recorded by its length alone.
 use mathlib.Core.Path.{_≡_}
 use mathlib.Core.Bool.{true, false}
 use lib.ListN.{length}

@@ -1,4 +1,4 @@
--- `trace::numbers::load64` meets its contract: two numbers of four bytes are the one of eight. Assumes nothing.
+-- `trace::numbers::load64` meets its contract: two numbers of four bytes are the one of eight.
 use denote.Ref.{now}
 use borrow.Author.Needs.{needs}
 use Rattle.trace.proofs.NumberLaws.{field-halves}

@@ -1,4 +1,4 @@
--- `trace::numbers::put_text` meets its contract: each turn puts one byte. Assumes nothing.
+-- `trace::numbers::put_text` meets its contract: each turn puts one byte.
 use Prim.Native.Nat.{_-_, _≤_}
 use native.Mathlib.Omega.{arith}
 use mathlib.Core.Path.{_≡_, refl}

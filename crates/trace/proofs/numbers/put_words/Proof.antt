@@ -1,4 +1,4 @@
--- `trace::numbers::put_words` meets its contract: each turn puts one number. Assumes nothing.
+-- `trace::numbers::put_words` meets its contract: each turn puts one number.
 use Prim.Native.Nat.{_-_, _≤_}
 use native.Mathlib.Omega.{arith}
 use mathlib.Core.Path.{_≡_, refl, ap, _∙_}

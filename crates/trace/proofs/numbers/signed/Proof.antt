@@ -1,4 +1,4 @@
--- `trace::numbers::signed` meets its contract: by the half in which the number lies. Assumes nothing.
+-- `trace::numbers::signed` meets its contract: by the half in which the number lies.
 use Prim.Native.Nat.{ℕ, zero, suc, _-_, _^_, _<_}
 use native.Mathlib.Omega.{arith}
 use mathlib.Core.Path.{_≡_, refl, sym, ap, _∙_}

@@ -1,4 +1,4 @@
--- `trace::numbers::store64` meets its contract: the two halves, one after the other, are the eight bytes of the number. Assumes nothing.
+-- `trace::numbers::store64` meets its contract: the two halves, one after the other, are the eight bytes of the number.
 use mathlib.Core.Path.{refl}
 use lib.Bits.{and-mask, mask-lt}
 use denote.Ref.{now}

@@ -1,4 +1,4 @@
--- `trace::numbers::text_at` meets its contract: each turn compares one byte. Assumes nothing.
+-- `trace::numbers::text_at` meets its contract: each turn compares one byte.
 use Prim.Native.Nat.{_+_, _-_, _≤_}
 use native.Mathlib.Omega.{arith}
 use mathlib.Core.Path.{_≡_, sym, _∙_}

@@ -1,4 +1,4 @@
--- `trace::numbers::unsigned` meets its contract: by the sign. Assumes nothing.
+-- `trace::numbers::unsigned` meets its contract: by the sign.
 use Prim.Native.Nat.{ℕ, suc, _^_, _<_}
 use native.Mathlib.Omega.{arith}
 use mathlib.Core.Path.{_≡_, refl, ap}

@@ -1,4 +1,4 @@
--- `trace::numbers::words_at` meets its contract: each turn compares one number. Assumes nothing.
+-- `trace::numbers::words_at` meets its contract: each turn compares one number.
 use Prim.Native.Nat.{_+_, _-_, _*_, _≤_}
 use native.Mathlib.Omega.{arith}
 use mathlib.Core.Path.{_≡_, sym, _∙_}

@@ -1,4 +1,4 @@
--- `trace::writer::matches` meets its contract: the header, the numbers, the text and the numbers after it are compared one after the other, and that is the comparison of the whole. Assumes nothing.
+-- `trace::writer::matches` meets its contract: the header, the numbers, the text and the numbers after it are compared one after the other, and that is the comparison of the whole.
 use native.Mathlib.Omega.{arith}
 use denote.Ref.{now}
 use borrow.Author.Needs.{needs}

@@ -1,4 +1,4 @@
--- `trace::writer::put_note` meets its contract: the header, the numbers, the text and the numbers after it, put one after the other, are the bytes of the record. Assumes nothing.
+-- `trace::writer::put_note` meets its contract: the header, the numbers, the text and the numbers after it, put one after the other, are the bytes of the record.
 use native.Mathlib.Omega.{arith}
 use denote.Ref.{now}
 use borrow.Author.Needs.{needs}

@@ -1,4 +1,4 @@
--- `trace::writer::write` meets its contract: where there is room the record is put, and else nothing changes. Assumes nothing.
+-- `trace::writer::write` meets its contract: where there is room the record is put, and else nothing changes.
 use mathlib.Core.Path.{sym}
 use denote.Ref.{now}
 use borrow.Author.Needs.{needs}

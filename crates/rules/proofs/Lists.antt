@@ -1,0 +1,7 @@
+-- Laws on bare lists and columns: nothing here knows a call.
+pub mod Columns
+pub mod Ids
+pub mod Least
+pub mod Messages
+pub mod Notices
+pub mod Ties

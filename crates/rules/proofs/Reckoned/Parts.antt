@@ -1,0 +1,138 @@
+-- ONE LAW for each part of the reckoning: an action on its columns leaves the other parts as they were.
+use Prim.Native.Nat.{ℕ}
+use mathlib.Core.Path.{_≡_, ap, subst}
+use mathlib.Core.Bool.{Bool, true, false, _&&_}
+use mathlib.Core.List.{List, [], _∷_}
+use Rattle.ledger.specs.Ledger.{Ledger, Link, Mail, Monitor, People, Time, ties, withMail, withPeople, withTies, withTime}
+use Rattle.pools.specs.Lists.{without}
+use Rattle.pools.proofs.BoolLaws.{and-left, and-right}
+use Rattle.pools.proofs.ExactLaws.{exact-same}
+use Rattle.tables.specs.declared.Caps.{Caps}
+use Rattle.tables.specs.Columns.{AGE, ARRIVAL, ARRIVED, CLOCK, DATA-FREE, DUE, INTERVAL, LENGTH, LINK-ONE, LINK-TWO, MAIL-FREE, MAIL-OWNER, MONITOR-AGE}
+use Rattle.tables.specs.Columns.{PAYLOAD, PRIORITY, RUNNING, SENDER, STATE, TIMER-AGE, TIMER-OWNER, WATCHED, WATCHER}
+use Rattle.tables.specs.State.{State}
+use Rattle.rules.specs.Aged.{isWorn}
+use Rattle.rules.specs.Terms.{alive}
+use Rattle.rules.specs.Agrees.{Agrees, LinksAgree, MailAgree, MonitorsAgree, PeopleAgree, TimeAgree, PoolAgree}
+use Rattle.rules.specs.Sound.{OWNERS}
+use Rattle.rules.proofs.Lists.Columns.{worn-alive}
+use Rattle.rules.proofs.Frames.Wrote.{Wrote, apart, mem, mixed, mixed-is}
+
+-- ---- what each part reads; the people read the states too, for who is alive alone
+abbrev pub OF-PEOPLE : List ℕ
+OF-PEOPLE = RUNNING ∷ AGE ∷ PRIORITY ∷ []
+
+abbrev pub OF-MAIL : List ℕ
+OF-MAIL = ARRIVED ∷ ARRIVAL ∷ MAIL-FREE ∷ MAIL-OWNER ∷ DATA-FREE ∷ SENDER ∷ LENGTH ∷ PAYLOAD ∷ AGE ∷ OWNERS
+
+abbrev pub OF-TIME : List ℕ
+OF-TIME = CLOCK ∷ TIMER-OWNER ∷ TIMER-AGE ∷ DUE ∷ INTERVAL ∷ AGE ∷ []
+
+abbrev pub OF-LINKS : List ℕ
+OF-LINKS = LINK-ONE ∷ LINK-TWO ∷ AGE ∷ []
+
+abbrev pub OF-MONITORS : List ℕ
+OF-MONITORS = WATCHER ∷ WATCHED ∷ MONITOR-AGE ∷ AGE ∷ []
+
+-- every part; `without n ALL` are the others than the n-th
+abbrev pub ALL : List (List ℕ)
+ALL = OF-PEOPLE ∷ OF-MAIL ∷ OF-TIME ∷ OF-LINKS ∷ OF-MONITORS ∷ []
+
+-- who is alive in other states, where the same are: the same things stand there
+pub pool-living : {A : Type 0} {thing : ℕ → A} {things : List A} {worn : List ℕ} (st st′ ages : List ℕ) → alive st′ ≡ alive st → PoolAgree (alive st) (isWorn st ages) thing things worn →
+    PoolAgree (alive st′) (isWorn st′ ages) thing things worn
+pool-living {worn = worn} st st′ ages v r = record {
+  slots = r .slots;
+  allSlots = rw v (r .allSlots);
+  are = r .are;
+  wornSlots = exact-same (isWorn st ages) (isWorn st′ ages) worn (r .wornSlots) (worn-alive st st′ ages v);
+}
+
+-- ---- parts that read none of the columns ws
+abbrev pub clear : List (List ℕ) → List ℕ → Bool
+clear [] ws = true
+clear (rs ∷ rss) ws = apart rs ws && clear rss ws
+
+-- one by one
+abbrev Cleared : List (List ℕ) → List ℕ → Type 0
+Cleared [] ws = Unit
+Cleared (rs ∷ rss) ws = (apart rs ws ≡ true) × Cleared rss ws
+
+cleared : (rss : List (List ℕ)) (ws : List ℕ) → clear rss ws ≡ true → Cleared rss ws
+cleared [] ws e = tt
+cleared (rs ∷ rss) ws e = (and-left (apart rs ws) (clear rss ws) e, cleared rss ws (and-right (apart rs ws) (clear rss ws) e))
+
+module _ {ws : List ℕ} {s t : State} (w : Wrote ws s t) where
+  -- who is alive is as it was where the states are not written
+  pub living : mem STATE ws ≡ false → alive (t STATE) ≡ alive (s STATE)
+  living e = ap alive (w .cols STATE e)
+
+  -- ---- a part that is not written: what it says of the columns of s that it reads, and those of t else
+  pub people-same : {p : People} → alive (t STATE) ≡ alive (s STATE) → apart OF-PEOPLE ws ≡ true → PeopleAgree p s → PeopleAgree p t
+  unfolding mixed
+  people-same {p = p} v e r =
+      subst (PeopleAgree p) (mixed-is OF-PEOPLE w e) (record { running = r .running; pool = pool-living (s STATE) (t STATE) (s AGE) v (r .pool) })
+
+  pub mail-same : {k : Caps} {m : Mail} → apart OF-MAIL ws ≡ true → MailAgree k m s → MailAgree k m t
+  unfolding mixed
+  mail-same {k = k} {m = m} e r =
+      subst (MailAgree k m) (mixed-is OF-MAIL w e)
+      (record { allBoxes = r .allBoxes; boxes = r .boxes; palms = r .palms; allPalms = r .allPalms; hands = r .hands; allDatas = r .allDatas })
+
+  pub time-same : {u : Time} → apart OF-TIME ws ≡ true → TimeAgree u s → TimeAgree u t
+  unfolding mixed
+  time-same {u = u} e r = subst (TimeAgree u) (mixed-is OF-TIME w e) (record { clock = r .clock; pool = r .pool })
+
+  pub links-same : {ls : List Link} → apart OF-LINKS ws ≡ true → LinksAgree ls s → LinksAgree ls t
+  unfolding mixed
+  links-same {ls = ls} e r = subst (LinksAgree ls) (mixed-is OF-LINKS w e) (record { bonds = r .bonds; allBonds = r .allBonds; links = r .links })
+
+  pub monitors-same : {ms : List Monitor} {worn : List ℕ} → apart OF-MONITORS ws ≡ true → MonitorsAgree ms worn s → MonitorsAgree ms worn t
+  unfolding mixed
+  monitors-same {ms = ms} {worn = worn} e r = subst (λ (x : State). MonitorsAgree ms worn x) (mixed-is OF-MONITORS w e) r
+
+  -- ---- THE LAWS: the part that changed is given, the others are passed on where what they read is not written
+  module _ {k : Caps} {l : Ledger} (r : Agrees k l s) where
+    -- all parts, one after the other
+    parts : {p : People} {m : Mail} {u : Time} {ls : List Link} {ms : List Monitor} {worn : List ℕ} →
+        PeopleAgree p t → MailAgree k m t → TimeAgree u t → LinksAgree ls t → MonitorsAgree ms worn t →
+        Agrees k (record { sizes = l .sizes; people = p; mail = m; time = u; ties = ties ls ms worn }) t
+    parts p m u ls ms = record { sizes = r .sizes; people = p; mail = m; time = u; links = ls; monitors = ms }
+
+    -- nothing that the reckoning knows
+    pub agrees-still : alive (t STATE) ≡ alive (s STATE) → clear ALL ws ≡ true → Agrees k l t
+    agrees-still v e =
+        let (people, (mail, (time, (links, (monitors, _))))) = cleared ALL ws e in
+        parts (people-same v people (r .people)) (mail-same mail (r .mail)) (time-same time (r .time)) (links-same links (r .links)) (monitors-same monitors (r .monitors))
+
+    -- the people
+    pub agrees-people : (p : People) → clear (without 0 ALL) ws ≡ true → PeopleAgree p t → Agrees k (withPeople l p) t
+    agrees-people p e x =
+        let (mail, (time, (links, (monitors, _)))) = cleared (without 0 ALL) ws e in
+        parts x (mail-same mail (r .mail)) (time-same time (r .time)) (links-same links (r .links)) (monitors-same monitors (r .monitors))
+
+    -- the messages
+    pub agrees-messages : (m : Mail) → alive (t STATE) ≡ alive (s STATE) → clear (without 1 ALL) ws ≡ true → MailAgree k m t → Agrees k (withMail l m) t
+    agrees-messages m v e x =
+        let (people, (time, (links, (monitors, _)))) = cleared (without 1 ALL) ws e in
+        parts (people-same v people (r .people)) x (time-same time (r .time)) (links-same links (r .links)) (monitors-same monitors (r .monitors))
+
+    -- the clock and the timers
+    pub agrees-time : (u : Time) → alive (t STATE) ≡ alive (s STATE) → clear (without 2 ALL) ws ≡ true → TimeAgree u t → Agrees k (withTime l u) t
+    agrees-time u v e x =
+        let (people, (mail, (links, (monitors, _)))) = cleared (without 2 ALL) ws e in
+        parts (people-same v people (r .people)) (mail-same mail (r .mail)) x (links-same links (r .links)) (monitors-same monitors (r .monitors))
+
+    -- the links
+    pub agrees-links : (ls : List Link) → alive (t STATE) ≡ alive (s STATE) → clear (without 3 ALL) ws ≡ true → LinksAgree ls t →
+        Agrees k (withTies l (ties ls (l .ties .monitors) (l .ties .worn))) t
+    agrees-links ls v e x =
+        let (people, (mail, (time, (monitors, _)))) = cleared (without 3 ALL) ws e in
+        parts (people-same v people (r .people)) (mail-same mail (r .mail)) (time-same time (r .time)) x (monitors-same monitors (r .monitors))
+
+    -- the monitors
+    pub agrees-monitors : (ms : List Monitor) (worn : List ℕ) → alive (t STATE) ≡ alive (s STATE) → clear (without 4 ALL) ws ≡ true → MonitorsAgree ms worn t →
+        Agrees k (withTies l (ties (l .ties .links) ms worn)) t
+    agrees-monitors ms worn v e x =
+        let (people, (mail, (time, (links, _)))) = cleared (without 4 ALL) ws e in
+        parts (people-same v people (r .people)) (mail-same mail (r .mail)) (time-same time (r .time)) (links-same links (r .links)) x

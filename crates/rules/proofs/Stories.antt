@@ -1,0 +1,13 @@
+-- What is so of lists of calls with their answers.
+pub mod Answers
+pub mod BenchRun
+pub mod Ends
+pub mod Examples
+pub mod Host
+pub mod NotVacuous
+pub mod Order
+pub mod Over
+pub mod Plays
+pub mod Showing
+pub mod SlotLife
+pub mod Story
