@@ -47,15 +47,9 @@ timerId = useId timerPool
 abbrev pub monitorId : State → ℕ → ℕ
 monitorId = useId monitorPool
 
--- id is that of a live actor, of a timer, of a monitor
+-- id is that of a live actor
 abbrev pub isActor : State → ℕ → Bool
 isActor = isUse actorPool
-
-abbrev pub isTimer : State → ℕ → Bool
-isTimer = isUse timerPool
-
-abbrev pub isMonitor : State → ℕ → Bool
-isMonitor = isUse monitorPool
 
 -- the slot of the running actor, one up; 0 where none runs
 abbrev pub runner : State → ℕ

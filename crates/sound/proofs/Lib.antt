@@ -1,5 +1,5 @@
 -- Laws that belong to no one function.
-pub mod PayloadLaws
+pub mod JoinLaws
 pub mod SlotLaws
 pub mod StandingLaws
 pub mod TieLaws

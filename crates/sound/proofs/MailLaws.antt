@@ -19,7 +19,7 @@ use Rattle.sound.specs.Kinds.{keepRule, keptRule, frontRules, bitRules, 
 use Rattle.sound.specs.Standing.{Standing, livesIn, waitsIn}
 use Rattle.sound.proofs.ListLaws.{same-rule}
 use Rattle.sound.proofs.MarkLaws.{of-ones}
-use Rattle.sound.proofs.PayloadLaws.{or-test}
+use Rattle.sound.proofs.JoinLaws.{or-test}
 use Rattle.sound.proofs.StandingLaws.{lives-in, waits-in}
 use Rattle.sound.proofs.WordLaws.{free-at}
 use Rattle.tables.specs.declared.Caps.{Caps}

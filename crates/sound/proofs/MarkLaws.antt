@@ -24,7 +24,8 @@ use Rattle.pools.proofs.ListLaws.{occurs-append, occurs-snoc, occurs-place}
 use Rattle.rules.specs.Rule.{test, both, each, eq, is, lt, le, imp, Holds}
 use Rattle.rules.specs.Terms.{RUNNABLE}
 use Rattle.rules.specs.Sound.{OWNERS, headRule, held, slotRule, boxRule, onceRule, arrivedRule, heldRule, plainRules}
-use Rattle.rules.proofs.Kept.Owners.{All, Names, all-at, held-few, owners-name, sole}
+use Rattle.rules.proofs.Frames.Wrote.{All}
+use Rattle.rules.proofs.Kept.Owners.{Names, all-sole, held-few, owners-name, sole}
 use Rattle.rules.proofs.Kept.Rules.{reads, same-test, and-same}
 use Rattle.tables.specs.declared.Caps.{Caps}
 use Rattle.tables.specs.Columns.{ARRIVAL, ARRIVED, DATA-FREE, MAIL-DATA, MAIL-FREE, QUEUE, QUEUED, STATE, REST}
@@ -403,7 +404,7 @@ module _ (k : Caps) (w p : List ℕ) (room : Room k w p) (h : Holds (plainRules 
   all-name = owners-name k (view k w p) (view-full k w p (room .words)) h
 
   pub owner-below : (c : ℕ) {list : List ℕ} → sole c OWNERS ≡ true → list ≡ view k w p c → Below (suc COLUMN-BITS) (length list) list
-  owner-below c o y = rw y (λ i l. omega (arith, all-at (Names k (view k w p)) OWNERS all-name c o i l, room .caps .fewDatas))
+  owner-below c o y = rw y (λ i l. omega (arith, all-sole (Names k (view k w p)) OWNERS all-name c o i l, room .caps .fewDatas))
 
   -- a column of free bits, and one of a word for each slot
   pub bits-long : (c : ℕ) {bits : List ℕ} → c < REST → size k c ≡ BIT-WORDS → bits ≡ view k w p c → length bits ≡ BIT-WORDS

@@ -13,7 +13,7 @@ use Rattle.rules.specs.Terms.{RUNNABLE, TIMEOUT, WAITS}
 use Rattle.rules.proofs.Kept.Rules.{and-same}
 use Rattle.sound.specs.Kinds.{formRule, restRule, waitingRule, ownRule}
 use Rattle.sound.proofs.ListLaws.{same-rule}
-use Rattle.sound.proofs.PayloadLaws.{or-test}
+use Rattle.sound.proofs.JoinLaws.{or-test}
 use Rattle.tables.specs.declared.Caps.{Caps}
 use Rattle.tables.specs.Limits.{LAST-LEVEL, OLDEST}
 use Rattle.tables.specs.State.{State}

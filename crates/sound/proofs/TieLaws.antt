@@ -19,7 +19,7 @@ use Rattle.sound.specs.Standing.{Standing, livesIn}
 use Rattle.sound.specs.Ties.{endsIn, linkIn, pairIn, monitorIn, timerIn, Inside, LinkSeen}
 use Rattle.sound.proofs.ListLaws.{same-rule}
 use Rattle.sound.proofs.PairLaws.{marked-first, marked-none, rule-none, marked-more, rule-more}
-use Rattle.sound.proofs.PayloadLaws.{or-test, pick-no, pick-yes}
+use Rattle.sound.proofs.JoinLaws.{or-test, pick-no, pick-yes}
 use Rattle.sound.proofs.StandingLaws.{lives-in}
 use Rattle.tables.specs.Columns.{DUE, INTERVAL, LINK-ONE, LINK-TWO, MONITOR-AGE, STATE, TIMER-AGE, TIMER-OWNER, WATCHED, WATCHER}
 use Rattle.tables.specs.Limits.{DUE-END, LONGEST, OLDEST}

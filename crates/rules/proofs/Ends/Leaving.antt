@@ -14,9 +14,7 @@ use Rattle.pools.proofs.BoolLaws.{split, true-false, flag-eq}
 use Rattle.pools.proofs.ListLaws.{occurs-place}
 use Rattle.pools.proofs.PoolLaws.{lowest-at, lowest-first}
 use Rattle.tables.specs.declared.Caps.{Caps}
-use Rattle.tables.specs.Columns.{AGE, ARRIVED, CLOCK, DEADLINE, DUE, HAND, INTERVAL, LINK-ONE, LINK-TWO, MAIL-DATA, MAIL-FREE, MAIL-OWNER, MONITOR-AGE, PAYLOAD}
-use Rattle.tables.specs.Columns.{PRIORITY, QUEUE, QUEUED, REASON, RUNNING, SENDER, STATE, TIMER-AGE, TIMER-OWNER, WANT-CLASS, WANT-SENDER, WANT-TAG, WATCHED}
-use Rattle.tables.specs.Columns.{WATCHER}
+use Rattle.tables.specs.Columns.{AGE, ARRIVED, CLOCK, DEADLINE, DUE, HAND, INTERVAL, LINK-ONE, LINK-TWO, MAIL-DATA, MAIL-FREE, MAIL-OWNER, MONITOR-AGE, PAYLOAD, PRIORITY, QUEUE, QUEUED, REASON, RUNNING, SENDER, STATE, TIMER-AGE, TIMER-OWNER, WANT-CLASS, WANT-SENDER, WANT-TAG, WATCHED, WATCHER}
 use Rattle.tables.specs.State.{State, at, head, poke, with-col}
 use Rattle.tables.specs.Action.{pull}
 use Rattle.rules.specs.Rule.{Holds}
@@ -34,6 +32,7 @@ use Rattle.rules.proofs.Lists.Columns.{alive-other, each-set, listed-le
 use Rattle.rules.proofs.Reckoned.Ledger.{alive-slot}
 use Rattle.rules.proofs.Lists.Ties.{set-cond}
 use Rattle.rules.proofs.Ends.Steps.{Bared, Gone, SLOTTED, all-at, of-gone, of-zero}
+use Rattle.rules.proofs.Kept.Clauses.{clock-fits, runner-fits, queue-fits, arrivals-fit}
 
 -- ---- a column of which word a alone became 0
 pub record Zeroed (a : ℕ) (l m : List ℕ) : Type 0 where
@@ -133,7 +132,7 @@ module _ (k : Caps) (s : State) (a : ℕ) (g : Good k s) (there : alive (s STATE
   stands u =
       let n = head s QUEUED in
       let f : ℕ → Bool = λ i. eqb (at s QUEUE i) a in
-      let m : length (take n (s QUEUE)) ≡ n = length-take-le n (s QUEUE) (omega (arith, g .head .1 .0, g .sized .words QUEUE (lit< tt))) in
+      let m : length (take n (s QUEUE)) ≡ n = length-take-le n (s QUEUE) (omega (arith, queue-fits g, g .sized .words QUEUE (lit< tt))) in
       let o : occurs a (take n (s QUEUE)) ≡ 1 = g .once a slot ∙ rw u in
       let p = occurs-place a (take n (s QUEUE)) (omega (arith, o)) in
       let l : p .0 < n = omega (arith, p .1, m) in
@@ -152,15 +151,15 @@ module _ (k : Caps) (s : State) (a : ℕ) (g : Good k s) (there : alive (s STATE
       let z = g .sized .words QUEUE (lit< tt) in
       let less : getD (set (s QUEUED) 0 (head s QUEUED - 1)) 0 0 ≡ head s QUEUED - 1 = getD-set-same (s QUEUED) 0 (head s QUEUED - 1) 0 (omega (arith, g .sized .words QUEUED (lit< tt))) in
       record {
-        wrote = wrote-within LEFT (wrote-poke (wrote-poke (wrote-poke (wrote-pull (wrote-none s) QUEUE QUEUED j (p .0) (omega (arith, g .head .1 .0, z))) REASON a 0) STATE a FREE) PRIORITY a 0) refl;
+        wrote = wrote-within LEFT (wrote-poke (wrote-poke (wrote-poke (wrote-pull (wrote-none s) QUEUE QUEUED j (p .0) (omega (arith, queue-fits g, z))) REASON a 0) STATE a FREE) PRIORITY a 0) refl;
         state = refl;
         level = put (g .sized .words PRIORITY (lit< tt));
         reason = put (g .sized .words REASON (lit< tt));
         wants = (zero-was (w .0 .0), zero-was (w .0 .1), zero-was (w .1 .0), zero-was (w .1 .1));
         runs = rw r;
         queued = omega (arith, less);
-        queue = rw less (listed-leaves (k .actors) (head s QUEUED) (s QUEUE) (g .head .1 .0) z (g .queue) j (p .0));
-        once = rw less (once-leaves (k .actors) (head s QUEUED) (s QUEUE) (g .head .1 .0) z (g .queue) j (p .0)
+        queue = rw less (listed-leaves (k .actors) (head s QUEUED) (s QUEUE) (queue-fits g) z (g .queue) j (p .0));
+        once = rw less (once-leaves (k .actors) (head s QUEUED) (s QUEUE) (queue-fits g) z (g .queue) j (p .0)
             (λ b. eqb (at s STATE b) RUNNABLE) (λ b. eqb (getD (set (s STATE) a 0) b 0) RUNNABLE) (rw (p .1, set-zero (s STATE) a)) (λ b n. rw (getD-set-other (s STATE) a b 0 0 (λ z. n (z ∙ sym (p .1))))) (g .once));
       }
 
@@ -196,8 +195,8 @@ vacated-keeps k s u a g bare v =
     let hand : at s HAND a ≡ 0 = of-zero HAND a (s HAND) refl (all-at (λ c. Gone c a (s c)) OWNED bare HAND refl) in
     patch k g (v .wrote) (
     Part.head by (rw (c CLOCK refl, c ARRIVED refl) (
-      (g .head .0 .0, split (eqb (runner s) (suc a)) (λ q. rw (v .runs, q) (omega arith)) (λ q. rw (v .runs, q) (g .head .0 .1))),
-      (omega (arith, v .queued, g .head .1 .0), g .head .1 .1),
+      (clock-fits g, split (eqb (runner s) (suc a)) (λ q. rw (v .runs, q) (omega arith)) (λ q. rw (v .runs, q) (runner-fits g))),
+      (omega (arith, v .queued, queue-fits g), arrivals-fit g),
     )) also
     Part.actors by (λ b h. each-set (λ b. b < k .actors → Holds (actorRule k u b)) a b
     (λ h. let x = g .actors a h in rw (zero, zero-at (v .level), zero-at (v .reason), c AGE refl, c HAND refl) ((omega arith, (omega arith, omega arith)), ((x .1 .0 .0, λ e. refl), x .1 .1)))

@@ -19,7 +19,7 @@ use Rattle.rules.specs.Terms.{actorId, alive}
 use Rattle.rules.specs.Agrees.{Agrees}
 use Rattle.rules.specs.Calls.{Step, Told, through, told}
 use Rattle.rules.specs.Trim.{trim}
-use Rattle.rules.proofs.Frames.Wrote.{Beside, apart, mem, within}
+use Rattle.rules.proofs.Frames.Wrote.{All, Beside, apart, mem, within}
 use Rattle.rules.specs.Good.{Ending, Good}
 use Rattle.rules.proofs.Reckoned.Pages.{Within, within-all, within-end, within-more, within-then}
 use Rattle.rules.proofs.Frames.TrimLaws.{trimT}
@@ -55,10 +55,6 @@ of-zero c a l n g =
     split (eqb (getD l a 0) 0) (eqb-true (getD l a 0) 0) (λ q. true-false true refl (rw (n, eq-eqb a a refl, q) at (g .is a)))
 
 -- ---- of each of a list of columns
-abbrev pub All : (ℕ → Type 0) → List ℕ → Type 0
-All P [] = Unit
-All P (c ∷ cs) = P c × All P cs
-
 module _ (P : ℕ → Type 0) where
   -- of one of them
   pub all-at : (cs : List ℕ) → All P cs → (c : ℕ) → mem c cs ≡ true → P c

@@ -23,6 +23,11 @@ abbrev pub mem : ℕ → List ℕ → Bool
 mem c [] = false
 mem c (d ∷ ds) = eqb c d || mem c ds
 
+-- something is so of each of a list
+abbrev pub All : {A : Type 0} → (A → Type 0) → List A → Type 0
+All P [] = Unit
+All P (x ∷ xs) = P x × All P xs
+
 -- none of the first is one of the second
 abbrev pub apart : List ℕ → List ℕ → Bool
 apart [] ds = true

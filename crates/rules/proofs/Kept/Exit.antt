@@ -29,10 +29,11 @@ use Rattle.rules.specs.Good.{Going, Good}
 use Rattle.rules.proofs.Lists.Columns.{alive-below, set-so}
 use Rattle.rules.proofs.Lists.Ties.{below, below-no, below-none, below-yes, cond-twice, joins-beside, joins-ends, joins-none, pair-once, step, used-inside}
 use Rattle.rules.proofs.Frames.Wrote.{Wrote, wrote-none, wrote-over, wrote-still}
-use Rattle.rules.proofs.Frames.Actions.{EYE-CUT, LINK-CUT, POSTED, wrote-post, wrote-tie, beside-emptied}
+use Rattle.rules.proofs.Frames.Actions.{EYE-CUT, LINK-CUT, POSTED, wrote-post, wrote-tie, beside-emptied, LINKED}
 use Rattle.rules.proofs.Kept.Ties.{unwatch-keeps, untie-keeps}
 use Rattle.rules.proofs.Kept.Messages.{Fine, exit-fine, joined, post-alive, post-heard, post-keeps, post-unheard, sender-fine, emptied-empties, emptied-hand, emptied-keeps}
 use Rattle.rules.proofs.Reckoned.Ledger.{alive-slot}
+use Rattle.rules.proofs.Kept.Clauses.{link-ends, monitor-ends}
 
 -- ---- what a message leaves
 -- the owners of mailbox entries: one entry is the target's
@@ -128,11 +129,11 @@ link-found k s a b g q =
     let e = linkOf k s (suc a) (suc b) in
     let l = ltb-true e (k .links) q in
     let j = lowest-at (joins (s LINK-ONE) (s LINK-TWO) (suc a) (suc b)) (k .links) l in
-    let h = g .links e l .1 (λ z. true-false (joins (s LINK-ONE) (s LINK-TWO) (suc a) (suc b) e) j
+    let h = link-ends g e l (λ z. true-false (joins (s LINK-ONE) (s LINK-TWO) (suc a) (suc b) e) j
     (joins-none (s LINK-ONE) (s LINK-TWO) (suc a) (suc b) e (λ z. omega arith) (λ z. omega arith) z)) in
     ⊎-elim
-    (λ p. let v : at s LINK-TWO e - 1 ≡ b = omega (arith, p .1) in (l, j, rw v at (h .1 .0 .1), λ z. h .1 .1 (p .0 ∙ ap suc (sym z) ∙ sym (p .1))))
-    (λ p. let v : at s LINK-ONE e - 1 ≡ b = omega (arith, p .0) in (l, j, rw v at (h .0 .1), λ z. h .1 .1 (p .0 ∙ ap suc z ∙ sym (p .1))))
+    (λ p. let v : at s LINK-TWO e - 1 ≡ b = omega (arith, p .1) in (l, j, rw v at (h .twoLives), λ z. h .differ (p .0 ∙ ap suc (sym z) ∙ sym (p .1))))
+    (λ p. let v : at s LINK-ONE e - 1 ≡ b = omega (arith, p .0) in (l, j, rw v at (h .oneLives), λ z. h .differ (p .0 ∙ ap suc z ∙ sym (p .1))))
     (joins-ends (s LINK-ONE) (s LINK-TWO) (suc a) (suc b) e j)
 
 -- the link that ends
@@ -212,8 +213,8 @@ module _ (k : Caps) (a me reason i : ℕ) (t : Told) where
 pub watcher-there : (k : Caps) (s : State) (a i : ℕ) → Good k s → i < k .monitors → at s WATCHED i ≡ suc a → (at s WATCHER i ≡ 0 → ⊥) × (alive (s STATE) (at s WATCHER i - 1) ≡ true) × (at s WATCHER i - 1 ≡ a → ⊥)
 watcher-there k s a i g l q =
     let n : at s WATCHER i ≡ 0 → ⊥ = λ z. omega (arith, g .monitors i l .1 .0 z) in
-    let h = g .monitors i l .1 .1 n in
-    (n, h .0 .1, λ z. h .1 .1 (omega (arith, h .0 .0)))
+    let h = monitor-ends g i l n in
+    (n, h .oneLives, λ z. h .differ (omega (arith, h .one)))
 
 -- the monitor that ends
 pub unseen-one : (k : Caps) (s u : State) (a me i : ℕ) → Unseen k a me i s u → i < k .monitors → eqb (at s WATCHED i) (suc a) ≡ true → Unseen k a me (suc i) s (unwatch u i)
@@ -277,10 +278,10 @@ unlinked k s u a me w e o =
     let g = w .going .good in
     let n : at u LINK-ONE e ≡ 0 → ⊥ = λ z. ⊎-elim (λ q. omega arith) (λ q. omega (arith, q, two z)) o in
     let l : e < k .links = omega (arith, used-inside (u LINK-ONE) e n, g .sized .words LINK-ONE (lit< tt)) in
-    let h = g .links e l .1 n in
+    let h = link-ends g e l n in
     ⊎-elim
-    (λ q. never (at u LINK-TWO e - 1) l (h .1 .0 .1) (inl (q, omega (arith, h .1 .0 .0))))
-    (λ q. never (at u LINK-ONE e - 1) l (h .0 .1) (inr (omega (arith, h .0 .0), q)))
+    (λ q. never (at u LINK-TWO e - 1) l (h .twoLives) (inl (q, omega (arith, h .two))))
+    (λ q. never (at u LINK-ONE e - 1) l (h .oneLives) (inr (omega (arith, h .one), q)))
     o
   where
     -- one not in use has no second end

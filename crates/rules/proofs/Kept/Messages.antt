@@ -44,7 +44,7 @@ use Rattle.rules.proofs.Claims.{Keeps}
 use Rattle.rules.proofs.Frames.Wrote.{Wrote, wrote-free, wrote-none, wrote-poke, wrote-pull, wrote-sized, wrote-take, wrote-with}
 use Rattle.rules.proofs.Frames.Actions.{beside-dropAll, wrote-await, wrote-enlist, wrote-letGo}
 use Rattle.rules.specs.Good.{Good}
-use Rattle.rules.proofs.Kept.Clauses.{read-back, read-down}
+use Rattle.rules.proofs.Kept.Clauses.{read-back, read-down, runner-fits, queue-fits, clock-fits, arrivals-fit}
 use Rattle.rules.proofs.Kept.Groups as Part
 use Rattle.rules.proofs.Kept.Patch.{_by_also_, done, patch, patch-living}
 use Rattle.rules.proofs.Lists.Columns.{alive-begins, alive-below, alive-of, alive-same, each-set, listed-joins, listed-leaves, once-joins, of-alive, once-leaves, other, set-so, set-zero}
@@ -52,6 +52,7 @@ use Rattle.rules.proofs.Reckoned.Ledger.{alive-age, alive-slot, runner-
 use Rattle.rules.proofs.Kept.Running.{wake-keeps}
 use Rattle.rules.proofs.Lists.Messages.{DataAt, Wiped, Written, bits-free, bits-take, data-same, header-same, written}
 use Rattle.rules.proofs.Kept.Owners.{arrivals-long, arrivals-room, column-arrived, occurs-column, occurs-set, owner-below, owner-else, owner-free, owner-fresh, owner-pass, owner-take, owned}
+use Rattle.rules.proofs.Guards.{second-passed, third-passed, fourth-passed}
 
 -- ---- a data entry is freed
 -- the state with data entry d freed, where q is the payload area with that entry wiped
@@ -179,15 +180,15 @@ module _ (k : Caps) (s : State) (g : Good k s) (a : ℕ) (there : alive (s STATE
         let owner-is = read-down g MAIL-OWNER e a tt under in
         let sender-is = read-back g SENDER d sender tt below in
         patch k g (wrote-enlist (wrote-filled (wrote-none s) d sender (length payload) q (w .long)) e a d) (
-        Part.head by (rw one-more (g .head .0, (g .head .1 .0, omega (arith, room)))) also
+        Part.head by (rw one-more (g .head .0, (queue-fits g, omega (arith, room)))) also
         Part.mailBits by (bits-take (k .mails) (s MAIL-FREE) e under (g .mailBits)) also
         Part.dataBits by (bits-take (k .datas) (s DATA-FREE) d below (g .dataBits)) also
         Part.mails by (λ f m. each-set (λ f. Holds (mailRule k (enlist (filled s d sender (length payload) q) e a d) f)) e f
         (rw (taken-mail, owner-is, read-back g MAIL-OWNER e (suc a) tt under, read-back g MAIL-DATA e (suc d) tt under)
         (λ u. true-false false u refl, λ u. ((omega arith, there), (omega arith, omega (arith, below)))))
         (λ r. rw (taken-other (s MAIL-FREE) e f (eqb-false f e r), other (s MAIL-OWNER) e (suc a) f r, other (s MAIL-DATA) e (suc d) f r) (g .mails f m))) also
-        Part.arrivals by (rw one-more (listed-joins (k .mails) (at s ARRIVED 0) (s ARRIVAL) (g .head .1 .1) (g .sized .words ARRIVAL (lit< tt)) (g .arrivals) e under room)) also
-        Part.arrived by (rw one-more (once-joins (k .mails) (at s ARRIVED 0) (s ARRIVAL) (g .head .1 .1) (g .sized .words ARRIVAL (lit< tt)) (g .arrivals)
+        Part.arrivals by (rw one-more (listed-joins (k .mails) (at s ARRIVED 0) (s ARRIVAL) (arrivals-fit g) (g .sized .words ARRIVAL (lit< tt)) (g .arrivals) e under room)) also
+        Part.arrived by (rw one-more (once-joins (k .mails) (at s ARRIVED 0) (s ARRIVAL) (arrivals-fit g) (g .sized .words ARRIVAL (lit< tt)) (g .arrivals)
         (λ f. not (free (s MAIL-FREE) f)) (λ f. not (free (taken (s MAIL-FREE) e) f)) e room (rw mf) (rw taken-mail) (λ f n. rw (taken-other (s MAIL-FREE) e f n)) (g .arrived))) also
         Part.filters by (λ f m. each-set (λ f. f < k .mails → Holds (filterRule (enlist (filled s d sender (length payload) q) e a d) f)) e f
         (λ m. rw (owner-is, read-down g MAIL-DATA e d tt under, sender-is, w .header)
@@ -290,7 +291,7 @@ mailOf s j = at s ARRIVAL j
 module _ (k : Caps) (s : State) (g : Good k s) (j : ℕ) (jl : j < at s ARRIVED 0) where
   -- it is one of the entries
   pub mailOf-below : mailOf s j < k .mails
-  mailOf-below = g .arrivals j (omega (arith, g .head .1 .1)) .0 jl
+  mailOf-below = g .arrivals j (omega (arith, arrivals-fit g)) .0 jl
 
   -- it is in use
   pub mailOf-used : not (free (s MAIL-FREE) (mailOf s j)) ≡ true
@@ -324,12 +325,12 @@ module _ (k : Caps) (s : State) (g : Good k s) (j : ℕ) (jl : j < at s ARRIVED 
   pub delist-wrote : Wrote (ARRIVED ∷ ARRIVAL ∷ MAIL-DATA ∷ MAIL-OWNER ∷ MAIL-FREE ∷ []) s (delist s j)
   unfolding delist poke with-col freeBit
   delist-wrote = wrote-pull (wrote-poke (wrote-poke (wrote-free (wrote-none s) MAIL-FREE (mailOf s j)) MAIL-OWNER (mailOf s j) 0) MAIL-DATA (mailOf s j) 0)
-      ARRIVAL ARRIVED j jl (omega (arith, g .head .1 .1, g .sized .words ARRIVAL (lit< tt)))
+      ARRIVAL ARRIVED j jl (omega (arith, arrivals-fit g, g .sized .words ARRIVAL (lit< tt)))
 
   -- the head is sound
   pub delist-head : Holds (headRule k (delist s j))
   unfolding delist pull poke with-col freeBit
-  delist-head = rw one-less (g .head .0, (g .head .1 .0, omega (arith, g .head .1 .1)))
+  delist-head = rw one-less (g .head .0, (queue-fits g, omega (arith, arrivals-fit g)))
 
   -- so are the bits
   pub delist-bits : (e : ℕ) → e < COLUMN-BITS → Holds (bitsRule (k .mails) (delist s j MAIL-FREE) e)
@@ -346,12 +347,12 @@ module _ (k : Caps) (s : State) (g : Good k s) (j : ℕ) (jl : j < at s ARRIVED 
   -- the arrivals
   pub delist-arrivals : (i : ℕ) → i < k .mails → Holds (arrivalRule k (delist s j) i)
   unfolding delist pull poke with-col freeBit
-  delist-arrivals = rw one-less (listed-leaves (k .mails) (at s ARRIVED 0) (s ARRIVAL) (g .head .1 .1) (g .sized .words ARRIVAL (lit< tt)) (g .arrivals) j jl)
+  delist-arrivals = rw one-less (listed-leaves (k .mails) (at s ARRIVED 0) (s ARRIVAL) (arrivals-fit g) (g .sized .words ARRIVAL (lit< tt)) (g .arrivals) j jl)
 
   -- each entry in use has arrived once
   pub delist-arrived : (e : ℕ) → e < k .mails → Holds (arrivedRule (delist s j) e)
   unfolding delist pull poke with-col freeBit
-  delist-arrived = rw one-less (once-leaves (k .mails) (at s ARRIVED 0) (s ARRIVAL) (g .head .1 .1) (g .sized .words ARRIVAL (lit< tt)) (g .arrivals) j jl
+  delist-arrived = rw one-less (once-leaves (k .mails) (at s ARRIVED 0) (s ARRIVAL) (arrivals-fit g) (g .sized .words ARRIVAL (lit< tt)) (g .arrivals) j jl
       (λ f. not (free (s MAIL-FREE) f)) (λ f. not (free (released (s MAIL-FREE) (mailOf s j)) f)) (rw freed) (λ f n. rw (released-other (s MAIL-FREE) (mailOf s j) f n)) (g .arrived))
 
   -- ---- it goes to the empty hand of a live slot
@@ -540,7 +541,7 @@ module _ (k : Caps) (s : State) (g : Good k s) (a : ℕ) (runs : runner s ≡ su
       let z : getD (set (s RUNNING) 0 0) 0 0 ≡ 0 = set-zero (s RUNNING) 0 in
       let p = legal-of sender class tag right in
       patch-living k g (wrote-await (wrote-none s) a sender class tag deadline) (
-      Part.head by (rw z ((g .head .0 .0, omega arith), g .head .1)) also
+      Part.head by (rw z ((clock-fits g, omega arith), g .head .1)) also
       Part.actors by (λ b h. each-set (λ b. Holds (actorRule k (await s a sender class tag deadline) b)) a b
       (let c = g .actors a slot-runs in rw is ((omega arith, c .0 .1), ((c .1 .0 .0, λ e. absurd (omega (arith, state-runs, c .1 .0 .1 e))), c .1 .1)))
       (λ q. rw (other (s STATE) a WAITS b q) (g .actors b h))) also
@@ -575,7 +576,7 @@ receiveBare-keeps sender class tag wait k s a g runs empty right fair =
     split (ltb j (head s ARRIVED))
     (λ q. rw q (handOver-keeps k s g j (ltb-true j (head s ARRIVED) q) a (runs-alive k s g a runs) empty))
     (λ q. split (notAtAll wait) (λ r. rw (q, r) g)
-    (λ r. rw (q, r) (await-keeps k s g a runs sender class tag (deadlineAt (head s CLOCK) wait) right (deadline-fits (head s CLOCK) wait (g .head .0 .0) fair r)
+    (λ r. rw (q, r) (await-keeps k s g a runs sender class tag (deadlineAt (head s CLOCK) wait) right (deadline-fits (head s CLOCK) wait (clock-fits g) fair r)
     (λ i l. lowest-first (matchAt s a sender class tag) (head s ARRIVED) i (omega (arith, ltb-false j (head s ARRIVED) q))))))
 
 -- THE THEOREM of receive
@@ -583,8 +584,8 @@ pub receive-keeps : (sender class tag : ℕ) (wait : ℤ) → Keeps (receive sen
 receive-keeps sender class tag wait k s g p =
     let a = runner s - 1 in
     let q = eqb-false (runner s) 0 (p .0) in
-    let l : a < k .actors = omega (arith, g .head .0 .1) in
-    let n = neither (not (legal sender class tag)) (badWait wait) (p .1 .0) in
+    let l : a < k .actors = omega (arith, runner-fits g) in
+    let n = neither (not (legal sender class tag)) (badWait wait) (second-passed p) in
     receiveBare-keeps sender class tag wait k (letGo s a) a (letGo-keeps k s a g l)
     (ap (λ (l : List ℕ). getD l 0 0) (wrote-letGo s a .cols RUNNING refl) ∙ omega arith) (letGo-empty k s a g l) (not-false (legal sender class tag) (n .0)) (n .1)
 
@@ -615,9 +616,9 @@ notify-keeps target tag payload k s g p =
     let bad = leb ANY-TAG tag in
     let long = ltb PAYLOAD-MOST (length payload) in
     post-keeps k s (slotOf ACTOR-FACTOR target) g (alive-of (s STATE) (slotOf ACTOR-FACTOR target)
-    (of-live ACTOR-FACTOR (s STATE) (s AGE) target (not-false (isActor s target) (p .1 .1 .0)) .0)) (runnerId s) (packed 0 0 tag) payload
-    (not-false (hasRoom k s) (p .1 .1 .1 .0))
-    (notify-fine k s (runner s - 1) tag payload g (runner-alive k s g (p .0)) (leb-false ANY-TAG tag (neither bad long (p .1 .0) .0)) (ltb-false PAYLOAD-MOST (length payload) (neither bad long (p .1 .0) .1)))
+    (of-live ACTOR-FACTOR (s STATE) (s AGE) target (not-false (isActor s target) (third-passed p)) .0)) (runnerId s) (packed 0 0 tag) payload
+    (not-false (hasRoom k s) (fourth-passed p))
+    (notify-fine k s (runner s - 1) tag payload g (runner-alive k s g (p .0)) (leb-false ANY-TAG tag (neither bad long (second-passed p) .0)) (ltb-false PAYLOAD-MOST (length payload) (neither bad long (second-passed p) .1)))
 
 -- ---- what a message leaves as it was
 -- the same actors are alive

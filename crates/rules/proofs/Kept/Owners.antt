@@ -29,9 +29,10 @@ use Rattle.rules.specs.Rule.{Holds}
 use Rattle.rules.specs.Sound.{OWNERS, held, plainRules, soundAt}
 use Rattle.rules.specs.Agrees.{arrivals, named, owners, usedData, usedMail}
 use Rattle.rules.proofs.Lists.Columns.{alive-below, alive-of, each-set, listed-exact, listed-room, other}
-use Rattle.rules.proofs.Frames.Wrote.{mem, wrote-none, wrote-poke}
+use Rattle.rules.proofs.Frames.Wrote.{All, mem, wrote-none, wrote-poke}
 use Rattle.rules.proofs.Kept.Good.{of-good}
 use Rattle.rules.specs.Good.{Good}
+use Rattle.rules.proofs.Kept.Clauses.{arrivals-fit}
 
 -- ---- how often a number stands
 -- how often a number stands in a column once a word is written
@@ -75,15 +76,10 @@ abbrev pub sole : ℕ → List ℕ → Bool
 sole c [] = false
 sole c (b ∷ bs) = cond (eqb c b) (not (mem c bs)) (sole c bs)
 
--- something is so of each
-abbrev pub All : {A : Type 0} → (A → Type 0) → List A → Type 0
-All P [] = Unit
-All P (x ∷ xs) = P x × All P xs
-
--- and so of one of them
-pub all-at : (P : ℕ → Type 0) (cs : List ℕ) → All P cs → (c : ℕ) → sole c cs ≡ true → P c
-all-at P [] a c o = true-false false o refl
-all-at P (b ∷ cs) a c o = split (eqb c b) (λ q. rw (eqb-true c b q) (a .0)) (λ q. all-at P cs (a .1) c (rw q at o))
+-- what is so of each is so of such a one
+pub all-sole : (P : ℕ → Type 0) (cs : List ℕ) → All P cs → (c : ℕ) → sole c cs ≡ true → P c
+all-sole P [] a c o = true-false false o refl
+all-sole P (b ∷ cs) a c o = split (eqb c b) (λ q. rw (eqb-true c b q) (a .0)) (λ q. all-sole P cs (a .1) c (rw q at o))
 
 -- ---- a word of one owner anew
 -- of a column that is none of them: nothing changes
@@ -197,7 +193,7 @@ module _ {k : Caps} {cs : List ℕ} {s : State} (w : Owned k cs s) where
 
       -- d is one of the data entries
       pub owner-below : d < k .datas
-      owner-below = omega (arith, h, all-at (Names k s) cs (w .names) c o e owner-in)
+      owner-below = omega (arith, h, all-sole (Names k s) cs (w .names) c o e owner-in)
 
       -- without it the owners name d once less: never
       never : held cs (poke s c e 0) d + 1 ≡ boolByte (not (free (s DATA-FREE) d))
@@ -242,16 +238,16 @@ module _ {k : Caps} {cs : List ℕ} {s : State} (w : Owned k cs s) where
 module _ (k : Caps) (s : State) (g : Good k s) where
   -- there are as many arrivals as the head says
   pub arrivals-long : length (arrivals s) ≡ at s ARRIVED 0
-  arrivals-long = length-take-le (at s ARRIVED 0) (s ARRIVAL) (omega (arith, g .head .1 .1, g .sized .words ARRIVAL (lit< tt)))
+  arrivals-long = length-take-le (at s ARRIVED 0) (s ARRIVAL) (omega (arith, arrivals-fit g, g .sized .words ARRIVAL (lit< tt)))
 
   -- the arrivals are the mailbox entries in use, each once
   pub boxes-exact : Exact (arrivals s) (usedMail k s)
-  boxes-exact = listed-exact (k .mails) (at s ARRIVED 0) (s ARRIVAL) (g .head .1 .1) (g .sized .words ARRIVAL (lit< tt)) (g .arrivals) (λ e. not (free (s MAIL-FREE) e)) (g .arrived)
+  boxes-exact = listed-exact (k .mails) (at s ARRIVED 0) (s ARRIVAL) (arrivals-fit g) (g .sized .words ARRIVAL (lit< tt)) (g .arrivals) (λ e. not (free (s MAIL-FREE) e)) (g .arrived)
 
   -- where an entry is free the arrivals have room
   pub arrivals-room : (e : ℕ) → e < k .mails → free (s MAIL-FREE) e ≡ true → at s ARRIVED 0 < k .mails
   arrivals-room e l f =
-      listed-room (k .mails) (at s ARRIVED 0) (s ARRIVAL) (g .head .1 .1) (g .sized .words ARRIVAL (lit< tt)) (g .arrivals) (λ e. not (free (s MAIL-FREE) e))
+      listed-room (k .mails) (at s ARRIVED 0) (s ARRIVAL) (arrivals-fit g) (g .sized .words ARRIVAL (lit< tt)) (g .arrivals) (λ e. not (free (s MAIL-FREE) e))
       e l (rw f) (g .arrived)
 
   -- a column of which just the entries in use hold a number: these have arrived

@@ -28,12 +28,13 @@ use Rattle.rules.proofs.Claims.{Keeps}
 use Rattle.rules.proofs.Frames.Wrote.{wrote-none}
 use Rattle.rules.proofs.Frames.Actions.{wrote-tie}
 use Rattle.rules.specs.Good.{Good}
-use Rattle.rules.proofs.Guards.{Passed}
+use Rattle.rules.proofs.Guards.{Passed, third-passed, second-passed, fourth-passed}
 use Rattle.rules.proofs.Kept.Groups as Part
 use Rattle.rules.proofs.Kept.Patch.{_by_also_, done, patch}
 use Rattle.rules.proofs.Lists.Columns.{alive-of, each-set, other}
 use Rattle.rules.proofs.Reckoned.Ledger.{runner-alive}
 use Rattle.rules.proofs.Lists.Ties.{down, below, joins-zero, pairs-set}
+use Rattle.rules.proofs.Kept.Clauses.{clock-fits}
 
 -- ---- timers
 module _ (k : Caps) (s : State) (g : Good k s) where
@@ -70,23 +71,23 @@ pub armed-keeps : (delay interval : ℕ) (bad : Bool) → delay ≤ LONGEST → 
     Passed (armEntry delay interval bad .tests k s) → Good k (armEntry delay interval bad .work k s .state)
 armed-keeps delay interval bad d n k s g p =
     let i = timerFor k s in
-    let y = ltb-true i (k .timers) (not-false (ltb i (k .timers)) (p .1 .1 .0)) in
+    let y = ltb-true i (k .timers) (not-false (ltb i (k .timers)) (third-passed p)) in
     let f = next-slot timerPool k s y in
-    arm-keeps k s g i (runner s - 1) (head s CLOCK + delay) interval y (f .1) (runner-alive k s g (p .0)) (omega (arith, g .head .0 .0)) n
+    arm-keeps k s g i (runner s - 1) (head s CLOCK + delay) interval y (f .1) (runner-alive k s g (p .0)) (omega (arith, clock-fits g)) n
 
 -- a one-shot
 pub after-keeps : (delay : ℕ) → Keeps (after delay)
-after-keeps delay k s g p = armed-keeps delay 0 (ltb LONGEST delay) (ltb-false LONGEST delay (p .1 .0)) (omega arith) k s g p
+after-keeps delay k s g p = armed-keeps delay 0 (ltb LONGEST delay) (ltb-false LONGEST delay (second-passed p)) (omega arith) k s g p
 
 -- a periodic one
 pub every-keeps : (interval : ℕ) → Keeps (every interval)
 every-keeps interval k s g p =
-    let h = ltb-false LONGEST interval (neither (eqb interval 0) (ltb LONGEST interval) (p .1 .0) .1) in
+    let h = ltb-false LONGEST interval (neither (eqb interval 0) (ltb LONGEST interval) (second-passed p) .1) in
     armed-keeps interval interval (eqb interval 0 || ltb LONGEST interval) h h k s g p
 
 -- taking a timer back keeps a sound state sound
 pub cancel-keeps : (id : ℕ) → Keeps (cancel id)
-cancel-keeps id k s g p = disarm-keeps k s (slotOf TIMER-FACTOR id) g (own-is timerPool s id (k .timers) (omega arith) (g .sized .words TIMER-OWNER (lit< tt)) (p .1 .0) .0)
+cancel-keeps id k s g p = disarm-keeps k s (slotOf TIMER-FACTOR id) g (own-is timerPool s id (k .timers) (omega arith) (g .sized .words TIMER-OWNER (lit< tt)) (second-passed p) .0)
 
 -- ---- actors by their ids, and links
 module _ (k : Caps) (s : State) (g : Good k s) where
@@ -124,20 +125,20 @@ pub link-keeps : (partner : ℕ) → Keeps (link partner)
 link-keeps partner k s g p =
     let b = suc (slotOf ACTOR-FACTOR partner) in
     let h = p .0 in
-    let r = not-false (isActor s partner) (p .1 .1 .0) in
+    let r = not-false (isActor s partner) (third-passed p) in
     let there : alive (s STATE) (b - 1) ≡ true = rw (down (slotOf ACTOR-FACTOR partner)) (actor-alive k s g partner r) in
     split (ltb (linkOf k s (runner s) b) (k .links)) (λ v. rw v g)
-    (λ v. let w : not (ltb (linkFor k s) (k .links)) ≡ false = rw v at (p .1 .1 .1 .0) in
+    (λ v. let w : not (ltb (linkFor k s) (k .links)) ≡ false = rw v at (fourth-passed p) in
     rw v (tied-keeps k s g (linkFor k s) (runner s) b (ltb-true (linkFor k s) (k .links) (not-false (ltb (linkFor k s) (k .links)) w))
     (λ z. absurd (eqb-false (runner s) 0 h z))
-    (λ z. ((omega arith, runner-alive k s g h), ((omega arith, there), actor-other k s g partner h r (p .1 .0))))
+    (λ z. ((omega arith, runner-alive k s g h), ((omega arith, there), actor-other k s g partner h r (second-passed p))))
     (λ d m o. lowest-first (joins (s LINK-ONE) (s LINK-TWO) (runner s) b) (k .links) d (omega (arith, ltb-false (linkOf k s (runner s) b) (k .links) v)))))
 
 -- and unlinking
 pub unlink-keeps : (partner : ℕ) → Keeps (unlink partner)
 unlink-keeps partner k s g p =
     let e = linkOf k s (runner s) (suc (slotOf ACTOR-FACTOR partner)) in
-    untie-keeps k s g e (ltb-true e (k .links) (and-right (isActor s partner) (ltb e (k .links)) (not-false (isActor s partner && ltb e (k .links)) (p .1 .0))))
+    untie-keeps k s g e (ltb-true e (k .links) (and-right (isActor s partner) (ltb e (k .links)) (not-false (isActor s partner && ltb e (k .links)) (second-passed p))))
 
 -- ---- monitors
 module _ (k : Caps) (s : State) (g : Good k s) where
@@ -167,15 +168,15 @@ unwatch-keeps k s i g l = monitors-end-keeps k s (unwatch s i) (λ e. eqb e i) g
 pub monitor-keeps : (target : ℕ) → Keeps (monitor target)
 monitor-keeps target k s g p =
     let i = monitorFor k s in
-    let r = not-false (isActor s target) (p .1 .1 .0) in
-    let m = ltb-true i (k .monitors) (not-false (ltb i (k .monitors)) (p .1 .1 .1 .0)) in
+    let r = not-false (isActor s target) (third-passed p) in
+    let m = ltb-true i (k .monitors) (not-false (ltb i (k .monitors)) (fourth-passed p)) in
     let f = next-slot monitorPool k s m in
     watch-keeps k s g i (runner s) (suc (slotOf ACTOR-FACTOR target)) m (f .1) (eqb-false (runner s) 0 (p .0)) (λ z. omega arith) (runner-alive k s g (p .0))
-    (rw (down (slotOf ACTOR-FACTOR target)) (actor-alive k s g target r)) (actor-other k s g target (p .0) r (p .1 .0))
+    (rw (down (slotOf ACTOR-FACTOR target)) (actor-alive k s g target r)) (actor-other k s g target (p .0) r (second-passed p))
 
 -- and taking a monitor back
 pub demonitor-keeps : (id : ℕ) → Keeps (demonitor id)
-demonitor-keeps id k s g p = unwatch-keeps k s (slotOf MONITOR-FACTOR id) g (own-is monitorPool s id (k .monitors) (omega arith) (g .sized .words WATCHER (lit< tt)) (p .1 .0) .0)
+demonitor-keeps id k s g p = unwatch-keeps k s (slotOf MONITOR-FACTOR id) g (own-is monitorPool s id (k .monitors) (omega arith) (g .sized .words WATCHER (lit< tt)) (second-passed p) .0)
 
 -- ---- an actor's own monitors and timers end
 module _ (k : Caps) (a : ℕ) (s : State) where

@@ -47,8 +47,8 @@ use Rattle.rules.proofs.Frames.Pools.{use-ends}
 use Rattle.rules.proofs.Reckoned.Ties.{bond-joins, bond-used, eye-used, linked-once, linked-same, untie-agrees, unwatch-agrees, up-id}
 use Rattle.rules.proofs.Reckoned.Messages.{post-agrees}
 use Rattle.rules.proofs.Lists.Notices.{map-rows, rows, rows-no, rows-past, rows-same, rows-yes, slot-rows, those-all, those-then, upto, upto-less, upto-more, upto-no, upto-yes}
-use Rattle.rules.proofs.Kept.Exit.{Cut, Unseen, cut-none, cutLink-no, cutLink-yes, cutLinks-cuts, cutMonitor-no, cutMonitor-yes, cutMonitors-cuts}
-use Rattle.rules.proofs.Kept.Exit.{going-fine, link-found, tell-lost, tell-sent, unseen-next, unseen-none, unseen-one, untied, watcher-there}
+use Rattle.rules.proofs.Kept.Exit.{Cut, Unseen, cut-none, cutLink-no, cutLink-yes, cutLinks-cuts, cutMonitor-no, cutMonitor-yes, cutMonitors-cuts, going-fine, link-found, tell-lost, tell-sent, unseen-next, unseen-none, unseen-one, untied, watcher-there}
+use Rattle.rules.proofs.Kept.Clauses.{link-ends, monitor-ends}
 
 -- ---- the reckoning in the midst of an end
 -- the tables hold it with these links and monitors, and the first of the notices: all of them, or as many as there was room for
@@ -328,8 +328,8 @@ module _ (k : Caps) (s : State) (l : Ledger) (g : Good k s) (r : Agrees k l s) (
   pub target-same : (e : ℕ) → 0 < occurs e (r .monitors .slots) → eqb (actorId s (at s WATCHED e - 1)) (actorId s a) ≡ seenBy s a e
   target-same e o =
       let c = eye-used k l s s g r e o in
-      let h = g .monitors e (c .1) .1 .1 (c .0) in
-      up-id k l s g r (at s WATCHED e) a (h .1 .0 .0) (h .1 .0 .1) there
+      let h = monitor-ends g e (c .1) (c .0) in
+      up-id k l s g r (at s WATCHED e) a (h .two) (h .twoLives) there
 
   -- "monitors on the actor removed by ascending monitor slot, each watcher sent a notice"
   pub eye-notices : map (λ m. notice (actorId s a) reason (m .id) (m .watcher))
@@ -360,14 +360,14 @@ module _ (k : Caps) (s : State) (l : Ledger) (g : Good k s) (r : Agrees k l s) (
   unfolding joins
   link-goes e o =
       let u = bond-used k l s g r e o in
-      let h = g .links e (u .1) .1 (u .0) in
-      let one : suc (at s LINK-ONE e - 1) ≡ at s LINK-ONE e = omega (arith, h .0 .0) in
-      let two : suc (at s LINK-TWO e - 1) ≡ at s LINK-TWO e = omega (arith, h .1 .0 .0) in
-      rw (up-id k l s g r (at s LINK-ONE e) a (h .0 .0) (h .0 .1) there, up-id k l s g r (at s LINK-TWO e) a (h .1 .0 .0) (h .1 .0 .1) there)
+      let h = link-ends g e (u .1) (u .0) in
+      let one : suc (at s LINK-ONE e - 1) ≡ at s LINK-ONE e = omega (arith, h .one) in
+      let two : suc (at s LINK-TWO e - 1) ≡ at s LINK-TWO e = omega (arith, h .two) in
+      rw (up-id k l s g r (at s LINK-ONE e) a (h .one) (h .oneLives) there, up-id k l s g r (at s LINK-TWO e) a (h .two) (h .twoLives) there)
       (split (eqb (at s LINK-ONE e) (suc a))
-      (λ p. rw p (gone-with e (at s LINK-TWO e - 1) (u .1) (u .0) (h .1 .0 .1) (rw (two, p, eq-eqb (at s LINK-TWO e) (at s LINK-TWO e) refl))))
+      (λ p. rw p (gone-with e (at s LINK-TWO e - 1) (u .1) (u .0) (h .twoLives) (rw (two, p, eq-eqb (at s LINK-TWO e) (at s LINK-TWO e) refl))))
       (λ p. split (eqb (at s LINK-TWO e) (suc a))
-      (λ q. rw (p, q) (gone-with e (at s LINK-ONE e - 1) (u .1) (u .0) (h .0 .1) (rw (one, p, q, eq-eqb (at s LINK-ONE e) (at s LINK-ONE e) refl))))
+      (λ q. rw (p, q) (gone-with e (at s LINK-ONE e - 1) (u .1) (u .0) (h .oneLives) (rw (one, p, q, eq-eqb (at s LINK-ONE e) (at s LINK-ONE e) refl))))
       (λ q. rw (p, q) (upto-no (λ d. linkedTo k s a d && Reckon.between (actorId s a) (actorId s d) (linkAt s e)) (k .actors) (λ d m.
       split (linkedTo k s a d)
       (λ f. rw f (bond-joins k l s g r a d e there (link-found k s a d g f .2) (u .0) (u .1) ∙ rw (p, q) (and-false (eqb (at s LINK-ONE e) (suc d)))))
@@ -404,5 +404,5 @@ module _ (k : Caps) (s : State) (l : Ledger) (g : Good k s) (r : Agrees k l s) (
   eyes-worn u y h =
       pool-ends monitorPool s (k .monitors) (g .sized .words WATCHER (lit< tt)) (omega (arith, g .range .fewMonitors)) (r .monitors) u
       (monitorAt s) (λ m. m .id) (below (s WATCHED) (suc a) (k .monitors)) (λ m. eqb (m .target) (actorId s a)) h y (λ e. refl)
-      (λ e d n. let x = g .monitors e n .1 .1 d .1 .0 in up-id k l s g r (at s WATCHED e) a (x .0) (x .1) there ∙ rw (lt-ltb e (k .monitors) n))
+      (λ e d n. let x = monitor-ends g e n d in up-id k l s g r (at s WATCHED e) a (x .two) (x .twoLives) there ∙ rw (lt-ltb e (k .monitors) n))
       (λ e q. refl) .wornSlots

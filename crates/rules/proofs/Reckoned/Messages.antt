@@ -44,18 +44,15 @@ use Rattle.rules.proofs.Frames.Wrote.{Wrote, apart, apart-at, mem, wrot
 use Rattle.rules.proofs.Frames.Actions.{DROPPED, MAILED, beside-dropFirst, wrote-await, wrote-enlist, wrote-letGo}
 use Rattle.rules.specs.Good.{Good}
 use Rattle.rules.proofs.Lists.Columns.{alive-below, alive-of, alive-same, each-set, other, set-zero}
-use Rattle.rules.proofs.Kept.Clauses.{length-fits, read-back, read-down}
-use Rattle.rules.proofs.Reckoned.Ledger.{alive-slot, idle-same, known-same, runner-alive, running-is, but-map, first-at, first-map, actor-id-eqb}
-use Rattle.rules.proofs.Reckoned.Ledger.{map-same-on, palm-owner, those-keep, those-map, message-room, runs-alive, runs-at}
+use Rattle.rules.proofs.Kept.Clauses.{length-fits, read-back, read-down, runner-fits}
+use Rattle.rules.proofs.Reckoned.Ledger.{alive-slot, idle-same, known-same, runner-alive, running-is, but-map, first-at, first-map, actor-id-eqb, map-same-on, palm-owner, those-keep, those-map, message-room, runs-alive, runs-at}
 use Rattle.rules.proofs.Lists.Messages.{Wiped, Written, bytesAt, header-same, text-same}
 use Rattle.rules.proofs.Kept.Owners.{all-datas, arrivals-long, arrivals-room, boxes-exact, datas-arrived, owner-below, owner-else, owner-fresh, owner-some, owned, sole}
-use Rattle.rules.proofs.Kept.Messages.{Fine, dataOf-below, dataOf-is, delist-wrote, drop-good, drop-none, dropFirst-is, dropFirst-keeps, dropFirst-none}
-use Rattle.rules.proofs.Kept.Messages.{filled, handOver-keeps, hears-waits, ink, ink-is, joined, joined-keeps, letGo-empty, let-good, letGo-arrived}
-use Rattle.rules.proofs.Kept.Messages.{letGo-keeps, mailOf, notify-fine, post-heard, post-unheard, room-free, unfill-is, unfilled, wake-alive, wake-deaf}
-use Rattle.rules.proofs.Kept.Messages.{wipe, wipe-is, wrote-filled, wrote-unfilled}
+use Rattle.rules.proofs.Kept.Messages.{Fine, dataOf-below, dataOf-is, delist-wrote, drop-good, drop-none, dropFirst-is, dropFirst-keeps, dropFirst-none, filled, handOver-keeps, hears-waits, ink, ink-is, joined, joined-keeps, letGo-empty, let-good, letGo-arrived, letGo-keeps, mailOf, notify-fine, post-heard, post-unheard, room-free, unfill-is, unfilled, wake-alive, wake-deaf, wipe, wipe-is, wrote-filled, wrote-unfilled}
 use Rattle.rules.proofs.Kept.Running.{wake-keeps}
 use Rattle.rules.proofs.Reckoned.Running.{wake-agrees}
 use Rattle.rules.proofs.Lists.Ties.{keep-in}
+use Rattle.rules.proofs.Guards.{second-passed, third-passed, fourth-passed}
 
 -- THE LAW of messages: where nothing but messages changed, the reckoning follows once it says what is in mailboxes and hands
 pub agrees-mail : (k : Caps) (l : Ledger) (s t : State) → Good k t → Agrees k l s → Wrote MAILED s t →
@@ -236,13 +233,13 @@ pub notify-agrees : (target tag : ℕ) (payload : List ℕ) → Agreed (notify t
 unfolding entered
 notify-agrees target tag payload k s l g r p =
     let a = slotOf ACTOR-FACTOR target in
-    let n = neither (leb ANY-TAG tag) (ltb PAYLOAD-MOST (length payload)) (p .1 .0) in
-    let e = not-false (isActor s target) (p .1 .1 .0) in
+    let n = neither (leb ANY-TAG tag) (ltb PAYLOAD-MOST (length payload)) (second-passed p) in
+    let e = not-false (isActor s target) (third-passed p) in
     let t = leb-false ANY-TAG tag (n .0) in
     let m = message target (l .people .running) (Says.wrote tag payload) in
     let same : letter m ≡ written (actorId s a) (runnerId s) (packed 0 0 tag) payload =
     same-letter payload (live-is ACTOR-FACTOR (s STATE) (s AGE) target (lit< tt) e) (running-is k s g l r (p .0)) (sym (class-packed 0 0 tag (omega arith) (omega arith))) (sym (tag-packed 0 0 tag (omega arith) (omega arith))) in
-    post-agrees k s l a g r (alive-of (s STATE) a (of-live ACTOR-FACTOR (s STATE) (s AGE) target e .0)) (runnerId s) (packed 0 0 tag) payload (not-false (hasRoom k s) (p .1 .1 .1 .0))
+    post-agrees k s l a g r (alive-of (s STATE) a (of-live ACTOR-FACTOR (s STATE) (s AGE) target e .0)) (runnerId s) (packed 0 0 tag) payload (not-false (hasRoom k s) (fourth-passed p))
     (notify-fine k s (runner s - 1) tag payload g (runner-alive k s g (p .0)) t (ltb-false PAYLOAD-MOST (length payload) (n .1))) m same
 
 -- its tests are the reckoning's
@@ -488,7 +485,7 @@ unfolding release
 receive-agrees sender class tag wait k s l g r p =
     let a = runner s - 1 in
     let n = eqb-false (runner s) 0 (p .0) in
-    let b : runner s - 1 < k .actors = omega (arith, g .head .0 .1) in
+    let b : runner s - 1 < k .actors = omega (arith, runner-fits g) in
     receiveBare-agrees sender class tag wait k (letGo s a) l a (letGo-keeps k s a g b)
     (subst (λ (id : ℕ). Agrees k (handless id l) (letGo s a)) (sym (running-is k s g l r (p .0))) (letGo-agrees-at k s l g r a (runner-alive k s g (p .0))))
     (ap (λ (c : List ℕ). getD c 0 0) (wrote-letGo s a .cols RUNNING refl) ∙ omega arith) (letGo-empty k s a g b)

@@ -36,17 +36,17 @@ use Rattle.rules.proofs.Reckoned.Pools.{pool-begins, pool-ends, pool-ow
 use Rattle.rules.proofs.Frames.Pools.{Ends, use-ends, next-slot, own-ends, use-begins, own-is}
 use Rattle.rules.proofs.Claims.{Agreed, Tested}
 use Rattle.rules.specs.Good.{Good}
-use Rattle.rules.proofs.Guards.{Passed}
+use Rattle.rules.proofs.Guards.{Passed, third-passed, second-passed, fourth-passed}
 use Rattle.rules.proofs.Lists.Columns.{other}
 use Rattle.rules.proofs.Reckoned.Ledger
-use Rattle.rules.proofs.Reckoned.Ledger.{bond-ends, clock-owner, eye-ends, full-same, idle-same, known-same, links-left, monitors-left, running-is}
-use Rattle.rules.proofs.Reckoned.Ledger.{runner-alive, some-map, some-no, some-yes, stranger, timers-left, listed-used}
+use Rattle.rules.proofs.Reckoned.Ledger.{bond-ends, clock-owner, eye-ends, full-same, idle-same, known-same, links-left, monitors-left, running-is, runner-alive, some-map, some-no, some-yes, stranger, timers-left, listed-used}
 use Rattle.rules.proofs.Reckoned.Tests.{SameTests}
 use Rattle.rules.proofs.Lists.Ties.{below, begins, ends, slot-id-eqb, down, joins-none, pair-once, set-cond}
 use Rattle.rules.proofs.Reckoned.Parts.{agrees-links, agrees-monitors, agrees-time, living}
 use Rattle.rules.proofs.Frames.Wrote.{Wrote, wrote-none, wrote-within}
 use Rattle.rules.proofs.Frames.Actions.{LINKED, TIMED, wrote-tie}
 use Rattle.rules.proofs.Kept.Ties.{actor-alive}
+use Rattle.rules.proofs.Kept.Clauses.{link-ends, monitor-ends}
 
 -- ---- timers end
 module _ (k : Caps) (l : Ledger) (s u : State) where
@@ -100,7 +100,7 @@ module _ (k : Caps) (l : Ledger) (s : State) (g : Good k s) (a : Agrees k l s) w
   unfolding entered
   armed-agrees c delay interval bad d p =
       let i = timerFor k s in
-      let y = ltb-true i (k .timers) (not-false (ltb i (k .timers)) (p .1 .1 .0)) in
+      let y = ltb-true i (k .timers) (not-false (ltb i (k .timers)) (third-passed p)) in
       let f = next-slot timerPool k s y in
       let r = nextId timerPool s i in
       let e : timer r (l .people .running) (l .time .clock + delay) interval ≡ timer r (runnerId s) (head s CLOCK + delay) interval = rw (running-is k s g l a (p .0), a .time .clock) in
@@ -121,7 +121,7 @@ pub cancel-agrees : (id : ℕ) → Agreed (cancel id)
 unfolding entered
 cancel-agrees id k s l g a p =
     let i = slotOf TIMER-FACTOR id in
-    let h = own-is timerPool s id (k .timers) (omega arith) (g .sized .words TIMER-OWNER (lit< tt)) (p .1 .0) in
+    let h = own-is timerPool s id (k .timers) (omega arith) (g .sized .words TIMER-OWNER (lit< tt)) (second-passed p) in
     subst (λ (x : ℕ). Agrees k (endTimers (λ t. eqb (t .id) x) l) (disarm s i)) (sym (h .1)) (disarm-agree k l s i (g .sized) (g .range) a (h .0))
 
 -- ---- their tests are the reckoning's
@@ -163,8 +163,8 @@ module _ (k : Caps) (l : Ledger) (s : State) (g : Good k s) (a : Agrees k l s) w
       Reckon.between (actorId s b) (actorId s c) (linkAt s e) ≡ joins (s LINK-ONE) (s LINK-TWO) (suc b) (suc c) e
   unfolding Reckon.between joins
   bond-joins b c e p q d m =
-      let h = g .links e m .1 d in
-      rw (up-id (at s LINK-ONE e) b (h .0 .0) (h .0 .1) p, up-id (at s LINK-ONE e) c (h .0 .0) (h .0 .1) q, up-id (at s LINK-TWO e) b (h .1 .0 .0) (h .1 .0 .1) p, up-id (at s LINK-TWO e) c (h .1 .0 .0) (h .1 .0 .1) q)
+      let h = link-ends g e m d in
+      rw (up-id (at s LINK-ONE e) b (h .one) (h .oneLives) p, up-id (at s LINK-ONE e) c (h .one) (h .oneLives) q, up-id (at s LINK-TWO e) b (h .two) (h .twoLives) p, up-id (at s LINK-TWO e) c (h .two) (h .twoLives) q)
 
   -- two live actors are linked on both sides, or on neither
   pub linked-same : (b c : ℕ) → alive (s STATE) b ≡ true → alive (s STATE) c ≡ true → linked l (actorId s b) (actorId s c) ≡ ltb (linkOf k s (suc b) (suc c)) (k .links)
@@ -231,10 +231,10 @@ unfolding entered
 link-agrees partner k s l g a p =
     let b = suc (slotOf ACTOR-FACTOR partner) in
     let h = p .0 in
-    let r = not-false (isActor s partner) (p .1 .1 .0) in
+    let r = not-false (isActor s partner) (third-passed p) in
     let e = linked-run k l s g a partner h r in
     split (ltb (linkOf k s (runner s) b) (k .links)) (λ v. rw (v, e ∙ v) a)
-    (λ v. let w : not (ltb (linkFor k s) (k .links)) ≡ false = rw v at (p .1 .1 .1 .0) in
+    (λ v. let w : not (ltb (linkFor k s) (k .links)) ≡ false = rw v at (fourth-passed p) in
     let x : linkFor k s < k .links = ltb-true (linkFor k s) (k .links) (not-false (ltb (linkFor k s) (k .links)) w) in
     let z : _≡_ {A = Link} (record { one = l .people .running; two = partner }) (record { one = actorId s (runner s - 1); two = actorId s (b - 1) }) =
     ap₂ (λ (i j : ℕ). record { one = i; two = j }) (running-is k s g l a h)
@@ -287,7 +287,7 @@ unfolding entered
 unlink-agrees partner k s l g a p =
     let j = slotOf ACTOR-FACTOR partner in
     let i = linkOf k s (runner s) (suc j) in
-    let q = not-false (isActor s partner && ltb i (k .links)) (p .1 .0) in
+    let q = not-false (isActor s partner && ltb i (k .links)) (second-passed p) in
     let r = and-left (isActor s partner) (ltb i (k .links)) q in
     let m = ltb-true i (k .links) (and-right (isActor s partner) (ltb i (k .links)) q) in
     let up : suc (runner s - 1) ≡ runner s = omega (arith, eqb-false (runner s) 0 (p .0)) in
@@ -342,8 +342,8 @@ unfolding entered
 monitor-agrees target k s l g a p =
     let i = monitorFor k s in
     let b = suc (slotOf ACTOR-FACTOR target) in
-    let r = not-false (isActor s target) (p .1 .1 .0) in
-    let m = ltb-true i (k .monitors) (not-false (ltb i (k .monitors)) (p .1 .1 .1 .0)) in
+    let r = not-false (isActor s target) (third-passed p) in
+    let m = ltb-true i (k .monitors) (not-false (ltb i (k .monitors)) (fourth-passed p)) in
     let f = next-slot monitorPool k s m in
     let seen : ℕ → ℕ → Monitor = λ x y. record { id = nextId monitorPool s i; watcher = x; target = y } in
     let z = ap₂ seen (running-is k s g l a (p .0))
@@ -360,7 +360,7 @@ pub demonitor-agrees : (id : ℕ) → Agreed (demonitor id)
 unfolding entered
 demonitor-agrees id k s l g a p =
     let i = slotOf MONITOR-FACTOR id in
-    let h = own-is monitorPool s id (k .monitors) (omega arith) (g .sized .words WATCHER (lit< tt)) (p .1 .0) in
+    let h = own-is monitorPool s id (k .monitors) (omega arith) (g .sized .words WATCHER (lit< tt)) (second-passed p) in
     subst (λ (x : ℕ). Agrees k (endMonitors (λ m. eqb (m .id) x) l) (unwatch s i)) (sym (h .1)) (unwatch-agrees k l s i g a (h .0))
 
 -- ---- "a monitor or timer only its owner, by its id": the tests are the reckoning's
@@ -397,4 +397,4 @@ module _ (k : Caps) (l : Ledger) (s : State) (g : Good k s) (a : Agrees k l s) (
   pub dropMonitors-agrees : Agrees k (endMonitors (λ m. eqb (m .watcher) (actorId s b)) l) (dropMonitors b (k .monitors) s)
   dropMonitors-agrees =
       monitors-end-agree k l s (dropMonitors b (k .monitors) s) g a (below (s WATCHER) (suc b) (k .monitors)) (λ m. eqb (m .watcher) (actorId s b)) (own-ends monitorPool b s (k .monitors))
-      (λ e d n. up-id k l s g a (at s WATCHER e) b (omega (arith, d)) (g .monitors e n .1 .1 d .0 .1) h ∙ rw (lt-ltb e (k .monitors) n))
+      (λ e d n. up-id k l s g a (at s WATCHER e) b (omega (arith, d)) (monitor-ends g e n d .oneLives) h ∙ rw (lt-ltb e (k .monitors) n))

@@ -2,7 +2,7 @@
 use mathlib.Core.Path.{sym, _∙_}
 use lib.Bits.{bitOr}
 use Rattle.rules.proofs.Kept.Rules.{and-same}
-use Rattle.sound.proofs.PayloadLaws.{or-test, pick-yes, pick-no}
+use Rattle.sound.proofs.JoinLaws.{or-test, pick-yes, pick-no}
 use borrow.Author.Needs.{needs}
 use Rattle.sound.proofs.messages.entry_ok.Statement.{statement}
 use Rattle.sound.proofs.messages.entry_ok.Tie as tie

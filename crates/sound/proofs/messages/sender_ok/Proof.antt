@@ -1,7 +1,7 @@
 -- `sound::messages::sender_ok` meets its contract.
 use mathlib.Core.Path.{refl}
 use borrow.Author.Tests.{eq-eqb, ne-eqb}
-use Rattle.sound.proofs.PayloadLaws.{pick-yes, pick-no}
+use Rattle.sound.proofs.JoinLaws.{pick-yes, pick-no}
 use borrow.Author.Needs.{needs}
 use Rattle.sound.proofs.messages.sender_ok.Statement.{statement}
 use Rattle.sound.proofs.messages.sender_ok.Tie as tie

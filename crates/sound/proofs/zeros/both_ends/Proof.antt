@@ -5,7 +5,7 @@ use mathlib.Core.Path.{_≡_, _∙_}
 use denote.Ref.{now}
 use Rattle.rules.proofs.Kept.Rules.{and-same}
 use Rattle.tables.specs.Limits.{ENTRY-BYTES}
-use Rattle.sound.proofs.PayloadLaws.{or-test}
+use Rattle.sound.proofs.JoinLaws.{or-test}
 use Rattle.sound.proofs.ZeroLaws.{zeros-meet}
 use borrow.Author.Needs.{needs}
 use Rattle.sound.proofs.zeros.both_ends.Statement.{statement}
