@@ -13,6 +13,6 @@ STEPS = turns.STEPS
 abbrev pub stepAt : ℕ → Step
 stepAt = turns.stepAt
 
--- the same, once the first i steps of its end are done
+-- a sound state in which the actor of slot a, with the id me, is alive, and bare is what the first i steps of its end leave bare
 abbrev pub Midway : Caps → ℕ → ℕ → ℕ → State → Type 0
 Midway = turns.Midway

@@ -65,14 +65,14 @@ isUse P s id = isLive (P .factor) (s (P .word)) (s (P .age)) id
 
 -- ---- a use begins and ends
 -- these words in these columns of slot i
-abbrev pub filled : State → ℕ → List ℕ → List ℕ → State
-filled s i [] vs = s
-filled s i (c ∷ cs) [] = s
-filled s i (c ∷ cs) (v ∷ vs) = filled (poke s c i v) i cs vs
+abbrev pub inSlot : State → ℕ → List ℕ → List ℕ → State
+inSlot s i [] vs = s
+inSlot s i (c ∷ cs) [] = s
+inSlot s i (c ∷ cs) (v ∷ vs) = inSlot (poke s c i v) i cs vs
 
--- zeros
-abbrev pub zeros : List ℕ → List ℕ
-zeros cs = map (λ c. 0) cs
+-- a zero for each of these columns
+abbrev pub noWords : List ℕ → List ℕ
+noWords cs = map (λ c. 0) cs
 
 -- "A slot's age is 1 at its first use, one more at each later use"
 abbrev pub older : Aged → State → ℕ → State
@@ -80,11 +80,11 @@ older P s i = poke s (P .age) i (at s (P .age) i + 1)
 
 -- a use of slot i begins, with these words
 unfoldable pub beginUse : Aged → State → ℕ → List ℕ → State
-beginUse P s i vs = filled (older P s i) i (P .word ∷ P .rest) vs
+beginUse P s i vs = inSlot (older P s i) i (P .word ∷ P .rest) vs
 
 -- it ends: the age alone stays
 unfoldable pub endUse : Aged → State → ℕ → State
-endUse P s i = filled s i (P .word ∷ P .rest) (zeros (P .word ∷ P .rest))
+endUse P s i = inSlot s i (P .word ∷ P .rest) (noWords (P .word ∷ P .rest))
 
 -- those that are slot a's, among the first n, end
 unfoldable pub endOwn : Aged → ℕ → ℕ → State → State

@@ -16,7 +16,7 @@ use Rattle.tables.specs.declared.Caps.{Caps}
 use Rattle.tables.specs.Limits.{OLDEST}
 use Rattle.tables.specs.State.{State, at, with-col, poke}
 use Rattle.tables.proofs.ActionLaws.{poke-same}
-use Rattle.rules.specs.Aged.{Aged, endOwn, endUse, isUse, canTake, nextSlot, useId, beginUse, filled, older, zeros}
+use Rattle.rules.specs.Aged.{Aged, endOwn, endUse, isUse, canTake, nextSlot, useId, beginUse, inSlot, older, noWords}
 use Rattle.rules.specs.Rule.{Rule, Holds}
 use Rattle.rules.specs.Sound.{agedRule, zeroRule}
 use Rattle.rules.specs.Terms.{isOwn, runner}
@@ -38,24 +38,24 @@ wrote-then {d = d} {cs = cs} v w =
 -- ---- words in some columns of a slot
 module _ (i : ℕ) where
   -- those columns alone are written
-  wrote-filled : (cs vs : List ℕ) (s : State) → Wrote cs s (filled s i cs vs)
+  wrote-filled : (cs vs : List ℕ) (s : State) → Wrote cs s (inSlot s i cs vs)
   wrote-filled [] vs s = wrote-none s
   wrote-filled (d ∷ cs) [] s = wrote-still (d ∷ cs) s
   wrote-filled (d ∷ cs) (v ∷ vs) s = wrote-then (wrote-poke (wrote-none s) d i v) (wrote-filled cs vs (poke s d i v))
 
   -- and no other slot
-  filled-other : (cs vs : List ℕ) (s : State) (c e : ℕ) → eqb e i ≡ false → at (filled s i cs vs) c e ≡ at s c e
+  filled-other : (cs vs : List ℕ) (s : State) (c e : ℕ) → eqb e i ≡ false → at (inSlot s i cs vs) c e ≡ at s c e
   filled-other [] vs s c e q = refl
   filled-other (d ∷ cs) [] s c e q = refl
   filled-other (d ∷ cs) (v ∷ vs) s c e q = filled-other cs vs (poke s d i v) c e q ∙ poke-other s d i v c e q
 
   -- zeros are read, also past the end
-  zeros-here : (cs : List ℕ) (s : State) (c : ℕ) → mem c cs ≡ true → at (filled s i cs (zeros cs)) c i ≡ 0
+  zeros-here : (cs : List ℕ) (s : State) (c : ℕ) → mem c cs ≡ true → at (inSlot s i cs (noWords cs)) c i ≡ 0
   zeros-here [] s c m = true-false false m refl
   zeros-here (d ∷ cs) s c m =
       split (mem c cs) (zeros-here cs (poke s d i 0) c) (λ q.
       let r : c ≡ d = eqb-true c d (sym (or-false (eqb c d)) ∙ (rw q at m)) in
-      ap (λ (l : List ℕ). getD l i 0) (wrote-filled cs (zeros cs) (poke s d i 0) .cols c q ∙ ap (poke s d i 0) r ∙ poke-same s d i 0) ∙ set-zero (s d) i)
+      ap (λ (l : List ℕ). getD l i 0) (wrote-filled cs (noWords cs) (poke s d i 0) .cols c q ∙ ap (poke s d i 0) r ∙ poke-same s d i 0) ∙ set-zero (s d) i)
 
 -- ---- A USE OF SLOT i BEGINS, with word v: it is one older, and no other slot changed
 pub record Begins (P : Aged) (i v : ℕ) (s u : State) : Type 0 where
@@ -109,8 +109,8 @@ module _ (P : Aged) where
   use-ends s i =
       let cs = P .word ∷ P .rest in
       record {
-        wrote = wrote-filled i cs (zeros cs) s;
-        gone = λ c m e. split (eqb e i) (λ q. rw (q, eqb-true e i q) (zeros-here i cs s c m)) (λ q. rw q (filled-other i cs (zeros cs) s c e q));
+        wrote = wrote-filled i cs (noWords cs) s;
+        gone = λ c m e. split (eqb e i) (λ q. rw (q, eqb-true e i q) (zeros-here i cs s c m)) (λ q. rw q (filled-other i cs (noWords cs) s c e q));
       }
 
   -- none does
