@@ -37,6 +37,22 @@ LONGEST = 2 ^ 32 - 1
 abbrev pub LONGEST-WAIT : ℕ
 LONGEST-WAIT = 2 ^ 31 - 1
 
+-- ---- buses: "up to 32 buses .., each with 1 to 16 entries and 1 to 32 subscribers"; "a number of reads (to 32) or an age (to 2^31 - 1 ms)"
+abbrev pub MOST-BUSES : ℕ
+MOST-BUSES = 32
+
+abbrev pub MOST-VALUES : ℕ
+MOST-VALUES = 16
+
+abbrev pub MOST-SEATS : ℕ
+MOST-SEATS = 32
+
+abbrev pub MOST-READS : ℕ
+MOST-READS = 32
+
+abbrev pub LONGEST-AGE : ℕ
+LONGEST-AGE = 2 ^ 31 - 1
+
 -- ---- messages
 -- "Payloads are 0 to 252 bytes"
 abbrev pub PAYLOAD-MOST : ℕ

@@ -1,23 +1,23 @@
 -- THE THEOREMS, on one page. Somebody lends two buffers, whatever they hold. All that is known of a call on them is its promise, `Meets`, which is the contract of its function in
 -- runtime/src; nobody else writes the buffers. Nothing else is assumed. w and p are the words and bytes before a call, w′ and p′ those after it; c is a call, o one but start, r its answer,
 -- z the sizes that a start asks for, k capacities, s a state, l what the reckoning says.
-use Prim.Native.Nat.{ℕ, _+_, _≤_}
+use Prim.Native.Nat.{ℕ, _+_, _≤_, _<_}
 use mathlib.Core.Path.{_≡_}
 use mathlib.Core.Logic.{_↔_}
-use mathlib.Core.Bool.{true, false, not}
+use mathlib.Core.Bool.{true, false, cond, not}
 use mathlib.Core.List.{List, [], _∷_, _++_, map}
 use lib.IntN.{ℤ}
 use lib.ListN.{drop, length, take}
 use lib.Dec.{eqb}
 use Rattle.ledger.specs.Call.{Answer, Call, Line, Op, Sizes, Why, code, counted, number, numbered, refuses, zeroed}
-use Rattle.ledger.specs.Call.Answer.{advanced, ended, part, plain, turn}
+use Rattle.ledger.specs.Call.Answer.{advanced, copied, ended, made, part, plain, turn}
 use Rattle.ledger.specs.Call.Call.{start, op}
-use Rattle.ledger.specs.Call.Op.{advance, exit, next, receive, show, shown}
+use Rattle.ledger.specs.Call.Op.{advance, bus, exit, next, publish, read, receive, show, shown, spawn, subscribe}
 use Rattle.ledger.specs.Ended.{Unaimed}
-use Rattle.ledger.specs.Ledger.{Ledger, Message, nothing}
-use Rattle.ledger.specs.Lists.{those}
-use Rattle.ledger.specs.Reckon.{entered, firedTimers, firings, later, leaf, notices, page, reckon, short, refusalDue}
-use Rattle.ledger.specs.Room.{inHand, known}
+use Rattle.ledger.specs.Ledger.{Ledger, Message, Value, nothing}
+use Rattle.ledger.specs.Lists.{butFirst, some, those}
+use Rattle.ledger.specs.Reckon.{entered, firedTimers, firings, later, leaf, notices, oneMore, page, readOut, reckon, short, refusalDue}
+use Rattle.ledger.specs.Room.{busFull, heard, inHand, known, oldestUnread}
 use Rattle.pools.specs.Pool.{occurs}
 use Rattle.tables.specs.State.{PastSame, capsOf, needed, neededP}
 use Rattle.rules.specs.declared.Shown.{Shown}
@@ -29,6 +29,7 @@ use Rattle.rules.specs.Calls.{Sleeps}
 use Rattle.rules.specs.Run.{sayShown, seven}
 use Rattle.rules.specs.Story.{Aims, Kept, Meets, Story, capsFor, capsFrom, line, startless}
 use Rattle.rules.specs.Trim.{NeededSame}
+use Rattle.rules.proofs.Frames.Wrote.{All}
 use Rattle.rules.proofs.Reckoned.Counts.{advance-once, line-notices, line-ticks}
 use Rattle.rules.proofs.Stories.Host.{meets-broken, meets-once}
 use Rattle.rules.proofs.Kept.Host.{good-view}
@@ -36,7 +37,8 @@ use Rattle.rules.proofs.Frames.Past.{line-past}
 use Rattle.rules.proofs.Stories.Showing.{show-is-shown}
 use Rattle.rules.proofs.Reckoned.Sleep.{line-sleep}
 use Rattle.rules.proofs.Stories.Story.{begun-kept, story-kept}
-use Rattle.rules.proofs.Stories.Answers.{line-counts, line-in-hand, line-refusal, line-refused, line-seven, line-two, line-unmet, line-unshown}
+use Rattle.rules.proofs.Stories.Answers.{line-counts, line-in-hand, line-not-new, line-refusal, line-refused, line-seven, line-two, line-unmet, line-unshown}
+use Rattle.rules.proofs.Stories.Buses.{bus-numbered, full-has-room, line-read, nothing-before, publish-ends-oldest, ranks-below, read-out-ends, reads-on, spawned-unsubscribed}
 use Rattle.rules.proofs.Stories.Ends.{ended-stays-ended, strange-line}
 use Rattle.rules.proofs.Frames.Unread.{fresh-alike, line-unread}
 
@@ -70,6 +72,10 @@ start-forgets = fresh-alike
 -- "every other number answered is 0": beside receive's 5 and 6 too
 pub zeros-beside : (sender class tag : ℕ) (wait : ℤ) (w p : List ℕ) (r : Answer) (w′ p′ : List ℕ) → Meets (op (receive sender class tag wait)) w p r w′ p′ → (number r ≡ 0 → ⊥) → r ≡ zeroed r
 zeros-beside = line-unmet
+
+-- and beside read's 5 nothing is copied
+pub nothing-beside : (b room : ℕ) (w p : List ℕ) (r : Answer) (w′ p′ : List ℕ) → Meets (op (read b room)) w p r w′ p′ → (number r ≡ 0 → ⊥) → r ≡ zeroed r
+nothing-beside = line-not-new
 
 -- on the same buffers, sound or not, `show` gives the part of the payload area at the offset and of the length that fg_shown answers
 pub shown-where : (w p bytes : List ℕ) (q : Shown) (w₁ p₁ w₂ p₂ : List ℕ) → Meets (op show) w p (part bytes) w₁ p₁ → Meets (op shown) w p (sayShown q) w₂ p₂ →
@@ -142,3 +148,50 @@ module _ (z : Sizes) {w p w₁ p₁ w₂ p₂ : List ℕ} {xs : List Line} (bega
   -- a call that is aimed at such an id, or at any that is not a live actor's, changes nothing and does not answer 0: it never reaches the next one in the slot
   pub never-reaches : {o : Op} (r : Answer) (w₃ p₃ : List ℕ) (id : ℕ) → Aims id o → known there id ≡ false → Meets (op o) w₂ p₂ r w₃ p₃ → (w₃ ≡ w₂) × (p₃ ≡ p₂) × (number r ≡ 0 → ⊥)
   never-reaches r w₃ p₃ id a n m = strange-line there w₂ p₂ r w₃ p₃ id a m demand-three n
+
+  -- ---- BUSES, of request C-11. A value is what was published and still stands on a bus; its rank is how many were published before it
+  -- the number of a new bus is how many there were
+  pub buses-numbered : (entries subscribers reads age id : ℕ) (w₃ p₃ : List ℕ) → Meets (op (bus entries subscribers reads age)) w₂ p₂ (made 0 id) w₃ p₃ → id ≡ length (there .buses .made)
+  buses-numbered entries subscribers reads age id w₃ p₃ m = bus-numbered entries subscribers reads age id there w₂ p₂ w₃ p₃ m demand-three
+
+  -- a read that is not refused answers 0 with the payload of the oldest value that its reader has not come to, or 5 where there is none
+  pub read-exactly : (b room : ℕ) (r : Answer) (w₃ p₃ : List ℕ) → Meets (op (read b room)) w₂ p₂ r w₃ p₃ → refuses (number r) ≡ false → r ≡ heard (oldestUnread there b)
+  read-exactly b room r w₃ p₃ m = line-read b room there w₂ p₂ r w₃ p₃ m demand-three
+
+  -- a new subscriber reads nothing that was published before: whatever it reads on that bus, until a new start, has a rank that no value had when it subscribed
+  pub no-history : (b : ℕ) {w₃ p₃ w₄ p₄ : List ℕ} {ys : List Line} → Meets (op (subscribe b)) w₂ p₂ (plain 0) w₃ p₃ → Story w₃ p₃ ys w₄ p₄ → startless ys ≡ true →
+      let later = reckon (entered (line (op (subscribe b)) (plain 0)) there) ys in
+      later .people .running ≡ there .people .running → (room : ℕ) (bytes w₅ p₅ : List ℕ) → Meets (op (read b room)) w₄ p₄ (copied 0 bytes) w₅ p₅ →
+      (u : Value) × (oldestUnread later b ≡ u ∷ []) × (bytes ≡ u .payload) × (there .buses .published ≤ u .rank)
+  no-history b = nothing-before b there demand-three
+
+  -- where every value there has a lower rank
+  pub ranks-known : All (λ (v : Value). v .rank < there .buses .published) (there .buses .values)
+  ranks-known = ranks-below there w₂ p₂ demand-three
+
+  -- each reads the values of a bus in the order of publishing, none twice: what one reads there after another has a higher rank, whatever happens between, until a new start
+  pub reads-in-order : (b before : ℕ) (first : List ℕ) {w₃ p₃ w₄ p₄ : List ℕ} {ys : List Line} → Meets (op (read b before)) w₂ p₂ (copied 0 first) w₃ p₃ → Story w₃ p₃ ys w₄ p₄ → startless ys ≡ true →
+      let later = reckon (entered (line (op (read b before)) (copied 0 first)) there) ys in
+      later .people .running ≡ there .people .running → (room : ℕ) (bytes w₅ p₅ : List ℕ) → Meets (op (read b room)) w₄ p₄ (copied 0 bytes) w₅ p₅ →
+      (v : Value) × (u : Value) × (oldestUnread there b ≡ v ∷ []) × (first ≡ v .payload) × (oldestUnread later b ≡ u ∷ []) × (bytes ≡ u .payload) × (v .rank < u .rank)
+  reads-in-order b before first = reads-on b there demand-three before first
+
+  -- publishing to a full bus is never refused for want of room
+  pub full-bus-has-room : (b : ℕ) (payload : List ℕ) (r : Answer) (w₃ p₃ : List ℕ) → Meets (op (publish b payload)) w₂ p₂ r w₃ p₃ → busFull there b ≡ true → number r ≡ 2 → ⊥
+  full-bus-has-room b payload r w₃ p₃ m = full-has-room b payload there w₂ p₂ r w₃ p₃ m demand-three
+
+  -- and ends just its oldest value; to any other it ends none. What is published comes last
+  pub oldest-evicted : (b : ℕ) (payload : List ℕ) → entered (line (op (publish b payload)) (plain 0)) there .buses .values
+      ≡ cond (busFull there b) (butFirst (λ v. eqb (v .bus) b) (there .buses .values)) (there .buses .values)
+      ++ (record { bus = b; payload = payload; time = there .time .clock; reads = 0; rank = there .buses .published } ∷ [])
+  oldest-evicted b payload = publish-ends-oldest b payload there
+
+  -- a value with a limit of reads ends at the read that reaches it
+  pub read-out : (b room : ℕ) (bytes : List ℕ) (v : Value) → oldestUnread there b ≡ v ∷ [] → readOut there (oneMore v) ≡ true →
+      All (λ (u : Value). u .rank ≡ v .rank → ⊥) (entered (line (op (read b room)) (copied 0 bytes)) there .buses .values)
+  read-out b room bytes v = read-out-ends b room there w₂ p₂ bytes v demand-three
+
+  -- after an exit no bus names the ended actor (`after-exit`: `readers` of `Nothing`), and the next one in its slot is subscribed to nothing
+  pub next-unsubscribed : (priority id : ℕ) (w₃ p₃ : List ℕ) → Meets (op (spawn priority)) w₂ p₂ (made 0 id) w₃ p₃ →
+      some (λ x. eqb (x .who) id) (entered (line (op (spawn priority)) (made 0 id)) there .buses .readers) ≡ false
+  next-unsubscribed priority id w₃ p₃ m = spawned-unsubscribed priority id there w₂ p₂ w₃ p₃ m demand-three

@@ -1,4 +1,5 @@
 -- Soundness, and that what the calls do keeps it.
+pub mod Buses
 pub mod Clauses
 pub mod Clock
 pub mod Exit
@@ -11,6 +12,8 @@ pub mod Patch
 pub mod Ready
 pub mod Rules
 pub mod Running
+pub mod Seats
 pub mod Sound
 pub mod Start
 pub mod Ties
+pub mod Values

@@ -5,3 +5,4 @@ pub mod Least
 pub mod Messages
 pub mod Notices
 pub mod Ties
+pub mod Values

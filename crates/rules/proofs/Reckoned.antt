@@ -1,6 +1,8 @@
 -- The tables hold what the reckoning says, action by action and call by call.
+pub mod Buses
 pub mod Clock
 pub mod Counts
+pub mod Cursors
 pub mod Exit
 pub mod Firing
 pub mod Ledger
@@ -9,8 +11,11 @@ pub mod Messages
 pub mod Pages
 pub mod Parts
 pub mod Pools
+pub mod Readers
+pub mod Reads
 pub mod Rearm
 pub mod Running
 pub mod Sleep
 pub mod Tests
 pub mod Ties
+pub mod Values

@@ -1,6 +1,8 @@
 -- What is so of lists of calls with their answers.
 pub mod Answers
 pub mod BenchRun
+pub mod Buses
+pub mod BusRun
 pub mod Ends
 pub mod Examples
 pub mod Host

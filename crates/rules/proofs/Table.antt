@@ -12,26 +12,28 @@ use Rattle.ledger.specs.Call.{Answer, Found, Op, Why, code, counted, firstYes, 
 use Rattle.ledger.specs.Call.Call.{op}
 use Rattle.ledger.specs.Call.Found.{all, nothing, waits}
 use Rattle.ledger.specs.Call.Why.{full}
-use Rattle.ledger.specs.Call.Op.{spawn, next, yield, notify, receive, show, shown, after, every, cancel, link, unlink, monitor, demonitor, exit, advance, report}
+use Rattle.ledger.specs.Call.Op.{spawn, next, yield, notify, receive, show, shown, after, every, cancel, link, unlink, monitor, demonitor, exit, advance, report, bus, publish, subscribe, unsubscribe, read}
 use Rattle.ledger.specs.Ledger.{Actor, Ledger, Message, People, Says}
-use Rattle.ledger.specs.Reckon.{cleared, departed, endLinks, endMonitors, endTimers, entered, firings, gone, later, emptyHanded as released, linked, message, page, short, pickedUp, ticks, refusalDue, wanted}
+use Rattle.ledger.specs.Reckon.{aired, busMade, cleared, departed, endLinks, endMonitors, endReaders, endTimers, entered, evicted, firings, gone, issued, joined, later, emptyHanded as released, linked, message, page, short, pickedUp, ticks, refusalDue, wanted}
 use Rattle.ledger.specs.Lists.{some, those}
-use Rattle.ledger.specs.Room.{holds, idle}
+use Rattle.ledger.specs.Room.{busFull, holds, idle, oldestUnread}
 use Rattle.pools.proofs.BoolLaws.{and-right, split, true-false}
 use Rattle.tables.specs.declared.Caps.{Caps}
-use Rattle.tables.specs.Columns.{AGE, ARRIVED, QUEUED, RUNNING}
+use Rattle.tables.specs.Columns.{AGE, ARRIVED, ISSUED, QUEUED, RUNNING}
 use Rattle.tables.specs.Limits.{LEVELS, LONGEST}
 use Rattle.tables.specs.State.{State, at, head}
 use Rattle.rules.specs.Aged.{monitorPool, timerPool}
 use Rattle.rules.specs.Terms.{runner}
 use Rattle.rules.specs.Actions.{letGo}
 use Rattle.rules.specs.Agrees.{Agrees}
+use Rattle.rules.specs.Buses.{oldestUnread as unreadAt}
 use Rattle.rules.specs.Calls.{Ans, Out, Shape, entry, firstHead, firstMatch, notAtAll, ordered, out, receiveBare, refusal, ruled}
-use Rattle.rules.specs.Calls.Shape.{aNumber, anId, aTurn, aMessage, aPart, aPlace, anEnd, anAdvance, aReport}
+use Rattle.rules.specs.Calls.Shape.{aNumber, anId, aTurn, aMessage, aPart, aPlace, anEnd, anAdvance, aReport, aCopy}
 use Rattle.rules.specs.Run.{numbers, said, say, step}
 use Rattle.rules.proofs.Reckoned.Clock.{advance-agrees, advance-counts, advance-keeps, advance-same}
 use Rattle.rules.proofs.Frames.Pools.{use-begins, use-ends}
 use Rattle.rules.proofs.Frames.Ages.{framed, spawn-framed}
+use Rattle.rules.proofs.Frames.Buses.{AIRED, beside-broadcast, beside-makeBus, beside-readOff, beside-sitDown, beside-standUp}
 use Rattle.rules.proofs.Frames.Calls.{beside-advance, beside-arm, beside-link, beside-next, beside-receive}
 use Rattle.rules.proofs.Claims.{Agreed, Counted, Framed, Keeps, Silent, Speaks, Tested}
 use Rattle.rules.proofs.Ends.Departs.{beside-depart, exit-agrees, exit-counts, exit-keeps, exit-same}
@@ -41,9 +43,11 @@ use Rattle.rules.proofs.Frames.Wrote.{Beside, beside-of, beside-still, 
 use Rattle.rules.proofs.Frames.Actions.{wrote-post, wrote-ready, wrote-tie}
 use Rattle.rules.specs.Good.{Good}
 use Rattle.rules.proofs.Guards.{Passed, found-well, guarded-all, guarded-heard, guarded-numbers, guarded-yes, oneOf, why-found, why-refuses}
+use Rattle.rules.proofs.Kept.Buses.{bus-keeps, publish-keeps, read-keeps, subscribe-keeps, unsubscribe-keeps}
 use Rattle.rules.proofs.Kept.Messages.{notify-keeps, receive-keeps}
+use Rattle.rules.proofs.Reckoned.Buses.{bus-agrees, bus-same, publish-agrees, publish-same, read-agrees, read-same, subscribe-agrees, subscribe-same, unsubscribe-agrees, unsubscribe-same}
 use Rattle.rules.proofs.Reckoned.Messages.{notify-agrees, notify-same, receive-agrees, receive-same}
-use Rattle.rules.proofs.Reckoned.Pages.{Paged, fires-does, more-some, quietly, within-all, within-but, within-end, Within}
+use Rattle.rules.proofs.Reckoned.Pages.{Paged, fires-does, more-some, quietly, reading-else, within-all, within-but, within-end, Within}
 use Rattle.rules.proofs.Kept.Running.{next-keeps, spawn-keeps, yield-keeps}
 use Rattle.rules.proofs.Reckoned.Running.{next-agrees, next-same, report-counts, shown-same, spawn-agrees, spawn-same, yield-agrees, yield-same}
 use Rattle.rules.proofs.Reckoned.Tests.{same-first}
@@ -65,6 +69,7 @@ refusal-zeroed aPlace n = refl
 refusal-zeroed anEnd n = refl
 refusal-zeroed anAdvance n = refl
 refusal-zeroed aReport n = refl
+refusal-zeroed aCopy n = refl
 
 -- ---- WHAT IS PROVED OF A CALL
 pub record Proved (o : Op) : Type 0 where
@@ -102,6 +107,14 @@ unfolding receiveBare
 receive-works sender class tag wait a s =
     split (ltb (firstMatch s a sender class tag) (head s ARRIVED)) (λ q. rw q) (λ q. rw q (split (notAtAll wait) (λ p. rw p) (λ p. rw p)))
 
+-- read finds a value, or nothing
+read-works : (b room : ℕ) (k : Caps) (s : State) → oneOf (map found (all ∷ nothing ∷ [])) (entry (read b room) .work k s .ans .no) ≡ true
+read-works b room k s = split (ltb (unreadAt s b (runner s)) (head s ISSUED)) (λ q. rw q) (λ q. rw q)
+
+-- where it finds one it writes the columns of values
+beside-read : (b room : ℕ) (k : Caps) (s : State) → Beside AIRED s (entry (read b room) .work k s .state)
+beside-read b room k s = split (ltb (unreadAt s b (runner s)) (head s ISSUED)) (λ q. rw q (beside-readOff s b _ _)) (λ q. rw q (beside-still AIRED s))
+
 -- a row of the table: the order of a call's tests and that its work answers one of its numbers, its counts, its refusals, and the laws of its work
 row : (o : Op) → ((k : Caps) (s : State) → (ordered 0 (entry o .tests k s) ≡ true)
     × (oneOf (map found (entry o .works)) (number (say (entry o .shape) (entry o .work k s .ans))) ≡ true)) →
@@ -120,7 +133,7 @@ row o h counts speaks keeps agrees same leaves page = record {
 
 -- ---- THE TABLE
 pub proved : (o : Op) → Proved o
-unfolding released pickedUp endTimers endLinks endMonitors departed gone cleared entered
+unfolding released pickedUp endTimers endLinks endMonitors departed gone cleared entered aired busMade issued evicted joined endReaders
 proved (spawn n) =
     row (spawn n) (λ k s. (refl, refl)) (λ k s l g a p. refl) (inl (λ m. refl)) (spawn-keeps n) (spawn-agrees n) (spawn-same n) (spawn-framed n) (record {
       order = λ r l. within-end (within-all (l .mail .boxes));
@@ -207,6 +220,23 @@ proved (advance micros) =
 proved report =
     row report (λ k s. (refl, refl)) report-counts (inl (λ m. refl)) (λ k s g p. g) (λ k s l g a p. a) (λ k s l g a. record {})
     (framed report (λ k s. beside-still [] s) refl) (quietly report (λ r l. (refl, refl, refl, refl)))
+proved (bus n m r t) =
+    row (bus n m r t) (λ k s. (refl, refl)) (λ k s l g a p. refl) (inl (λ m. refl)) (bus-keeps n m r t) (bus-agrees n m r t) (bus-same n m r t)
+    (framed (bus n m r t) (λ k s. beside-makeBus s n m r t) refl) (quietly (bus n m r t) (λ r l. (refl, refl, refl, refl)))
+proved (publish b payload) =
+    row (publish b payload) (λ k s. (refl, refl)) (λ k s l g a p. refl) (inl (λ m. refl)) (publish-keeps b payload) (publish-agrees b payload) (publish-same b payload)
+    (framed (publish b payload) (λ k s. beside-broadcast k s b payload) refl) (quietly (publish b payload)
+    (λ r l. split (busFull l b) (λ q. rw q (refl, refl, refl, refl)) (λ q. rw q (refl, refl, refl, refl))))
+proved (subscribe b) =
+    row (subscribe b) (λ k s. (refl, refl)) (λ k s l g a p. refl) (inl (λ m. refl)) (subscribe-keeps b) (subscribe-agrees b) (subscribe-same b)
+    (framed (subscribe b) (λ k s. beside-sitDown s b _ (runner s)) refl) (quietly (subscribe b) (λ r l. (refl, refl, refl, refl)))
+proved (unsubscribe b) =
+    row (unsubscribe b) (λ k s. (refl, refl)) (λ k s l g a p. refl) (inl (λ m. refl)) (unsubscribe-keeps b) (unsubscribe-agrees b) (unsubscribe-same b)
+    (framed (unsubscribe b) (λ k s. beside-standUp k s b _) refl) (quietly (unsubscribe b) (λ r l. (refl, refl, refl, refl)))
+proved (read b room) =
+    row (read b room) (λ k s. (refl, read-works b room k s)) (λ k s l g a p. refl) (inl (λ m. refl)) (read-keeps b room) (read-agrees b room) (read-same b room)
+    (framed (read b room) (beside-read b room) refl) (quietly (read b room)
+    (λ r l. let e = reading-else b (l .people .running) (oldestUnread l b) l in rw (e .0, e .1) (refl, refl, refl, refl)))
 
 -- ---- WHAT IS SO OF EVERY CALL
 -- no work is heard as a refusal

@@ -4,11 +4,11 @@ use mathlib.Core.Path.{_≡_}
 use mathlib.Core.Bool.{true}
 use Rattle.tables.specs.declared.Caps.{Caps}
 use Rattle.tables.specs.Columns.{CLOCK, DATA-FREE, HAND, MAIL-FREE, MAIL-OWNER, STATE}
-use Rattle.tables.specs.Limits.{CLOCK-END}
+use Rattle.tables.specs.Limits.{CLOCK-END, MOST-BUSES}
 use Rattle.tables.specs.Sizes.{COLUMN-BITS, SPARES}
 use Rattle.tables.specs.State.{InRange, Sized, State, at, head, poke}
 use Rattle.rules.specs.Rule.{Holds}
-use Rattle.rules.specs.Sound.{actorRule, arrivalRule, arrivedRule, bitsRule, capsRule, dataRule, filterRule, headRule, heldRule, linkRule, mailRule, monitorRule, onceRule, pairRule, queueRule, runRule, spareRule, timerRule, unusedRule, waitRule}
+use Rattle.rules.specs.Sound.{actorRule, arrivalRule, arrivedRule, bitsRule, busRule, capsRule, crowdRule, dataRule, filterRule, headRule, heldRule, issueRule, issuedRule, linkRule, mailRule, monitorRule, onceRule, pairRule, queueRule, rowRule, runRule, spareRule, timerRule, unusedRule, valueRule, waitRule}
 use Rattle.rules.specs.Terms.{actorId, alive}
 
 -- a sound state, a field for each group of rules: the invariant that every call keeps
@@ -36,6 +36,12 @@ pub record Good (k : Caps) (s : State) : Type 0 where
   pub pairs : (e : ℕ) → e < k .links → Holds (pairRule s e)
   pub monitors : (i : ℕ) → i < k .monitors → Holds (monitorRule s i)
   pub timers : (i : ℕ) → i < k .timers → Holds (timerRule s i)
+  pub buses : (b : ℕ) → b < MOST-BUSES → Holds (busRule s b)
+  pub rows : (b : ℕ) → b < MOST-BUSES → Holds (rowRule s b)
+  pub values : (d : ℕ) → d < k .datas → Holds (valueRule s d)
+  pub issues : (i : ℕ) → i < k .datas → Holds (issueRule k s i)
+  pub issued : (d : ℕ) → d < k .datas → Holds (issuedRule s d)
+  pub crowds : (b : ℕ) → b < MOST-BUSES → Holds (crowdRule s b)
 
 -- ---- the state at another clock
 unfoldable pub atClock : State → ℕ → State

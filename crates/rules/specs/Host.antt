@@ -1,9 +1,9 @@
 -- What a host call promises of its answer and of both buffers, for any rule; and start.
-use Prim.Native.Nat.{ℕ, _+_, _-_, _*_, _^_, min}
+use Prim.Native.Nat.{ℕ, _+_, _-_, _*_, _^_, _≤_, min}
 use mathlib.Core.Path.{_≡_}
 use mathlib.Core.Bool.{Bool, cond, _&&_}
 use mathlib.Core.List.{List}
-use lib.ListN.{length, replicate}
+use lib.ListN.{length, replicate, take, drop}
 use lib.Dec.{eqb, leb}
 use Rattle.ledger.specs.Call.{Answer}
 use Rattle.ledger.specs.Call.Answer.{plain}
@@ -13,7 +13,8 @@ use Rattle.pools.specs.Bits.{WORD-BITS}
 use Rattle.tables.specs.State.{State, capsOf, joinP, joinW, needed, neededP, poke, size, view, Does, Reads}
 use Rattle.rules.specs.Rule.{Rule, test}
 use Rattle.rules.specs.Sound.{rangeRule, soundRule, viewOf}
-use Rattle.rules.specs.Calls.{Ans, Entry, Out, refusal, ruled, shownEntry}
+use Rattle.rules.specs.declared.Copied.{Copied}
+use Rattle.rules.specs.Calls.{Ans, Copy, Entry, Out, copy, refusal, ruled, shownEntry}
 
 -- "Buffers that hold no sound runtime are refused by every call but start": the answer `seven` and nothing changed;
 -- any others give the answer of the rule, and every word and byte is that of the state it leaves
@@ -42,6 +43,15 @@ answered e w p = cond (test (soundRule w p)) (ruled e (capsOf w) (viewOf w p) .a
 -- "a returned part of the lent area, from its entry's fifth byte": the part begins as far into the area as fg_shown answers on the same buffers, so at the area's first byte beside a refusal
 abbrev pub shownAt : (area : ℕ × ℕ) → (w p : List ℕ) → ℕ × ℕ
 shownAt area w p = further area (answered shownEntry w p .offset)
+
+-- ---- a third slice, lent for a call to copy to
+-- the answer with the bytes that were copied: the first of the slice, as many as it says
+abbrev pub copyIn : Copied → List ℕ → Copy
+copyIn r slice = copy (r .no) (take (r .length) slice)
+
+-- so many bytes were written, from the slice's first on; the others stay
+abbrev pub Onto : ℕ → (slice slice′ : List ℕ) → Type 0
+Onto n slice slice′ = (n ≤ length slice) × (length slice′ ≡ length slice) × (drop n slice′ ≡ drop n slice)
 
 -- ---- start
 -- "zeros the needed payload bytes", and every needed word; "Words and bytes past the needed ones are never changed"

@@ -1,4 +1,4 @@
--- What a sound runtime is: the paragraph "Sound means" of document 01, a rule for each of its clauses, with the clause above it.
+-- What a sound runtime is: the paragraph "Sound means" of document 01 and what later requests add to it, a rule for each clause, with the clause above it.
 use Prim.Native.Nat.{ℕ, suc, _+_, _-_, _*_}
 use mathlib.Core.Bool.{not, true}
 use mathlib.Core.List.{List, [], _∷_}
@@ -10,12 +10,13 @@ use Rattle.pools.specs.Bits.{free}
 use Rattle.pools.specs.Slot.{ageOf, slotOf}
 use Rattle.records.specs.Header.{classOf, markOf, tagOf}
 use Rattle.tables.specs.declared.Caps.{Caps}
-use Rattle.tables.specs.Columns.{ACTORS, AGE, ARRIVAL, ARRIVED, CLOCK, DATA-FREE, DATAS, DEADLINE, DUE, HAND, INTERVAL, LENGTH, LINK-ONE, LINK-TWO, LINKS, MAIL-DATA, MAIL-FREE, MAIL-OWNER, MAILS, MONITORS, PAYLOAD, PRIORITY, QUEUE, QUEUED, REASON, REST, SENDER, SPARE, STATE, TIMER-OWNER, TIMERS, WANT-CLASS, WANT-SENDER, WANT-TAG, WATCHED, WATCHER}
+use Rattle.tables.specs.Columns.{ACTORS, AGE, ARRIVAL, ARRIVED, BUS-AGE, BUS-READS, BUS-SEATS, BUS-SIZE, BUSES, CLOCK, DATA-FREE, DATAS, DEADLINE, DUE, HAND, INTERVAL, ISSUE, ISSUED, LENGTH, LINK-ONE, LINK-TWO, LINKS, MAIL-DATA, MAIL-FREE, MAIL-OWNER, MAILS, MONITORS, PAYLOAD, PRIORITY, PUBLISHED, QUEUE, QUEUED, READERS, REASON, REST, SENDER, SPARE, STATE, TIMER-OWNER, TIMERS, VALUE-BUS, WANT-CLASS, WANT-SENDER, WANT-TAG, WATCHED, WATCHER}
 use Rattle.tables.specs.Sizes.{COLUMN-BITS, SPARES}
-use Rattle.tables.specs.Limits.{ACTOR-FACTOR, ANY-CLASS, ANY-SENDER, ANY-TAG, CLOCK-END, DEADLINE-END, DUE-END, ENTRY-BYTES, HEADER-BYTES, LAST-LEVEL, LONGEST, MOST-ACTORS, MOST-DATAS, MOST-LINKS, MOST-MAILS, MOST-MONITORS, MOST-TIMERS, OLDEST, PAYLOAD-MOST}
+use Rattle.tables.specs.Limits.{ACTOR-FACTOR, ANY-CLASS, ANY-SENDER, ANY-TAG, CLOCK-END, DEADLINE-END, DUE-END, ENTRY-BYTES, HEADER-BYTES, LAST-LEVEL, LONGEST, LONGEST-AGE, MOST-ACTORS, MOST-BUSES, MOST-DATAS, MOST-LINKS, MOST-MAILS, MOST-MONITORS, MOST-READS, MOST-SEATS, MOST-TIMERS, MOST-VALUES, OLDEST, PAYLOAD-MOST}
 use Rattle.tables.specs.State.{State, at, head, view, capsOf, size, neededP, Room}
 use Rattle.rules.specs.Rule.{Rule, is, le, lt, eq, differ, both, imp, each, Holds}
 use Rattle.rules.specs.Aged.{Aged, monitorPool, timerPool}
+use Rattle.rules.specs.Buses.{hasRead, inSeat, mayRead}
 use Rattle.rules.specs.Terms.{FREE, RUNNABLE, RUNS, TIMEOUT, WAITS, alive, awaits, header, joins, runner}
 
 -- ---- "capacities .. in range"
@@ -41,7 +42,7 @@ capsRule k s =
 abbrev pub headRule : Caps → State → Rule
 headRule k s =
     both (both (le (head s CLOCK) CLOCK-END) (le (runner s) (k .actors)))
-    (both (le (head s QUEUED) (k .actors)) (le (head s ARRIVED) (k .mails)))
+    (both (both (le (head s QUEUED) (k .actors)) (le (head s ARRIVED) (k .mails))) (both (le (head s ISSUED) (k .datas)) (le (head s BUSES) MOST-BUSES)))
 
 abbrev pub spareRule : State → ℕ → Rule
 spareRule s i = eq (at s SPARE i) 0
@@ -109,16 +110,16 @@ filterRule s e =
     (is (not (awaits s (at s MAIL-OWNER e - 1) (at s MAIL-DATA e - 1))))
 
 -- ---- data entries
--- their owners: the columns of which each word names a data entry, one up, or none: of the queued messages, and of the actors' hands
+-- their owners: the columns of which each word names a data entry, one up, or none: of the queued messages, of the actors' hands, and of the buses' values
 abbrev pub OWNERS : List ℕ
-OWNERS = MAIL-DATA ∷ HAND ∷ []
+OWNERS = MAIL-DATA ∷ HAND ∷ ISSUE ∷ []
 
 -- how often the columns of a list name data entry d
 abbrev pub held : List ℕ → State → ℕ → ℕ
 held [] s d = 0
 held (c ∷ cs) s d = occurs (suc d) (s c) + held cs s d
 
--- "each data entry free, belonging to one queued message, or in one live actor's hand": its owners name one that is not free once, and a free one never
+-- "each data entry free, belonging to one queued message, or in one live actor's hand", or one bus entry's: its owners name one that is not free once, and a free one never
 abbrev pub heldRule : State → ℕ → Rule
 heldRule s d = eq (held OWNERS s d) (boolByte (not (free (s DATA-FREE) d)))
 
@@ -152,9 +153,70 @@ messageRule s d =
     (both (senderRule (s AGE) (classOf (header s d)) (at s SENDER d))
     (zeros (s PAYLOAD) (ENTRY-BYTES * d + (HEADER-BYTES + at s LENGTH d)) (PAYLOAD-MOST - at s LENGTH d)))
 
+-- "A bus entry takes one data entry, header 0": and no sender
+abbrev pub publicRule : State → ℕ → Rule
+publicRule s d =
+    both (both (eq (header s d) 0) (eq (at s SENDER d) 0))
+    (both (le (at s LENGTH d) PAYLOAD-MOST)
+    (zeros (s PAYLOAD) (ENTRY-BYTES * d + (HEADER-BYTES + at s LENGTH d)) (PAYLOAD-MOST - at s LENGTH d)))
+
+-- one that is taken holds a message, or a bus's value
+abbrev pub filledRule : State → ℕ → Rule
+filledRule s d = both (imp (eq (at s VALUE-BUS d) 0) (messageRule s d)) (imp (differ (at s VALUE-BUS d) 0) (publicRule s d))
+
 abbrev pub dataRule : State → ℕ → Rule
 dataRule s d =
-    both (imp (is (free (s DATA-FREE) d)) (emptyRule s d)) (imp (is (not (free (s DATA-FREE) d))) (messageRule s d))
+    both (imp (is (free (s DATA-FREE) d)) (emptyRule s d)) (imp (is (not (free (s DATA-FREE) d))) (filledRule s d))
+
+-- ---- buses
+-- "the ranges above": "1 to 16 entries and 1 to 32 subscribers", reads "to 32", "an age (to 2^31 - 1 ms)"; a bus that is not made is all zero
+abbrev pub settingsRule : State → ℕ → Rule
+settingsRule s b =
+    both (both (both (le 1 (at s BUS-SIZE b)) (le (at s BUS-SIZE b) MOST-VALUES)) (both (le 1 (at s BUS-SEATS b)) (le (at s BUS-SEATS b) MOST-SEATS)))
+    (both (le (at s BUS-READS b) MOST-READS) (le (at s BUS-AGE b) LONGEST-AGE))
+
+abbrev pub noBusRule : State → ℕ → Rule
+noBusRule s b =
+    both (both (eq (at s BUS-SIZE b) 0) (eq (at s BUS-SEATS b) 0)) (both (eq (at s BUS-READS b) 0) (eq (at s BUS-AGE b) 0))
+
+abbrev pub busRule : State → ℕ → Rule
+busRule s b = both (imp (lt b (head s BUSES)) (settingsRule s b)) (imp (le (head s BUSES) b) (noBusRule s b))
+
+-- "live subscribers, none twice on a bus": in a seat that the bus has sits a live actor, and in no seat before it the same one
+abbrev pub seatRule : State → ℕ → ℕ → Rule
+seatRule s b n =
+    imp (differ (inSeat s b n) 0)
+    (both (lt n (at s BUS-SEATS b))
+    (both (is (alive (s STATE) (inSeat s b n - 1))) (each n (λ m. differ (inSeat s b m) (inSeat s b n)))))
+
+abbrev pub rowRule : State → ℕ → Rule
+rowRule s b = each MOST-SEATS (λ n. seatRule s b n)
+
+-- a bus has at most so many values
+abbrev pub crowdRule : State → ℕ → Rule
+crowdRule s b = le (occurs (suc b) (s VALUE-BUS)) (at s BUS-SIZE b)
+
+-- nobody who may still read a value has read it, and each who may sits on its bus
+abbrev pub maskRule : State → ℕ → ℕ → Rule
+maskRule s d n =
+    imp (is (mayRead (at s READERS d) n))
+    (both (is (not (hasRead (at s READERS d) n))) (differ (inSeat s (at s VALUE-BUS d - 1) n) 0))
+
+-- a value is one bus's, and was published by now; the words of a data entry that holds none are 0
+abbrev pub valueRule : State → ℕ → Rule
+valueRule s d =
+    both (imp (eq (at s VALUE-BUS d) 0) (both (eq (at s READERS d) 0) (eq (at s PUBLISHED d) 0)))
+    (imp (differ (at s VALUE-BUS d) 0)
+    (both (both (le (at s VALUE-BUS d) (head s BUSES)) (le (at s PUBLISHED d) (head s CLOCK))) (each MOST-SEATS (λ n. maskRule s d n))))
+
+-- the row of values: the first words name data entries, one up, and the others are 0
+abbrev pub issueRule : Caps → State → ℕ → Rule
+issueRule k s i =
+    both (imp (lt i (head s ISSUED)) (both (le 1 (at s ISSUE i)) (le (at s ISSUE i) (k .datas)))) (imp (le (head s ISSUED) i) (eq (at s ISSUE i) 0))
+
+-- each value is in it once
+abbrev pub issuedRule : State → ℕ → Rule
+issuedRule s d = eq (occurs (suc d) (s ISSUE)) (boolByte (not (eqb (at s VALUE-BUS d) 0)))
 
 -- ---- "links join two different live actors", both written one up
 abbrev pub endsRule : List ℕ → ℕ → ℕ → Rule
@@ -219,13 +281,16 @@ plainRules k s =
     (both (both (each COLUMN-BITS (λ e. bitsRule (k .mails) (s MAIL-FREE) e)) (each COLUMN-BITS (λ d. bitsRule (k .datas) (s DATA-FREE) d)))
     (both (both (each (k .actors) (λ a. slotRule k s a)) (each (k .mails) (λ e. boxRule k s e)))
     (both (both (each (k .datas) (λ d. dataRule s d)) (each (k .links) (λ e. linkRule s e)))
-    (both (each (k .monitors) (λ i. monitorRule s i)) (each (k .timers) (λ i. timerRule s i))))))
+    (both (both (each (k .monitors) (λ i. monitorRule s i)) (each (k .timers) (λ i. timerRule s i)))
+    (both (both (each MOST-BUSES (λ b. busRule s b)) (each MOST-BUSES (λ b. rowRule s b)))
+    (both (each (k .datas) (λ d. valueRule s d)) (each (k .datas) (λ i. issueRule k s i))))))))
 
 -- the rules that count over a whole column, or follow what one names
 unfoldable pub acrossRules : Caps → State → Rule
 acrossRules k s =
     both (both (each (k .actors) (λ a. onceRule s a)) (each (k .mails) (λ e. arrivedRule s e)))
-    (both (each (k .datas) (λ d. heldRule s d)) (both (each (k .links) (λ e. pairRule s e)) (each (k .mails) (λ e. filterRule s e))))
+    (both (both (each (k .datas) (λ d. issuedRule s d)) (each MOST-BUSES (λ b. crowdRule s b)))
+    (both (each (k .datas) (λ d. heldRule s d)) (both (each (k .links) (λ e. pairRule s e)) (each (k .mails) (λ e. filterRule s e)))))
 
 unfoldable pub soundAt : Caps → State → Rule
 soundAt k s = both (fitRule k s) (both (plainRules k s) (acrossRules k s))

@@ -57,3 +57,10 @@ pub struct Report {
     pub no: u64,
     pub free: [u64; 6],
 }
+
+// The number, and how many bytes were copied to the lent slice.
+#[repr(C)]
+pub struct Copied {
+    pub no: u64,
+    pub length: u64,
+}

@@ -3,7 +3,7 @@
 -- the queue and the arrivals, which have counts, hold the numbers themselves.
 use Prim.Native.Nat.{ℕ}
 
--- ---- the head, one word each: the six capacities, the clock, the running actor's slot, the lengths of the queue and of the arrivals
+-- ---- the head, one word each: the six capacities, the clock, the running actor's slot, the lengths of the queue, of the arrivals and of the row of values, how many buses are made
 abbrev pub ACTORS : ℕ
 ACTORS = 0
 
@@ -34,101 +34,136 @@ QUEUED = 8
 abbrev pub ARRIVED : ℕ
 ARRIVED = 9
 
+abbrev pub ISSUED : ℕ
+ISSUED = 10
+
+abbrev pub BUSES : ℕ
+BUSES = 11
+
 -- ---- the spare words of the head: one column
 abbrev pub SPARE : ℕ
-SPARE = 10
+SPARE = 12
 
 -- ---- the free bits, four words each
 abbrev pub MAIL-FREE : ℕ
-MAIL-FREE = 11
+MAIL-FREE = 13
 
 abbrev pub DATA-FREE : ℕ
-DATA-FREE = 12
+DATA-FREE = 14
+
+-- ---- a word for each bus
+abbrev pub BUS-SIZE : ℕ
+BUS-SIZE = 15
+
+abbrev pub BUS-SEATS : ℕ
+BUS-SEATS = 16
+
+abbrev pub BUS-READS : ℕ
+BUS-READS = 17
+
+abbrev pub BUS-AGE : ℕ
+BUS-AGE = 18
+
+-- ---- a word for each seat of each bus, those of a bus side by side
+abbrev pub SEAT : ℕ
+SEAT = 19
 
 -- ---- a word for each actor slot
 abbrev pub STATE : ℕ
-STATE = 13
+STATE = 20
 
 abbrev pub PRIORITY : ℕ
-PRIORITY = 14
+PRIORITY = 21
 
 abbrev pub REASON : ℕ
-REASON = 15
+REASON = 22
 
 abbrev pub AGE : ℕ
-AGE = 16
+AGE = 23
 
 abbrev pub HAND : ℕ
-HAND = 17
+HAND = 24
 
 abbrev pub WANT-SENDER : ℕ
-WANT-SENDER = 18
+WANT-SENDER = 25
 
 abbrev pub WANT-CLASS : ℕ
-WANT-CLASS = 19
+WANT-CLASS = 26
 
 abbrev pub WANT-TAG : ℕ
-WANT-TAG = 20
+WANT-TAG = 27
 
 abbrev pub DEADLINE : ℕ
-DEADLINE = 21
+DEADLINE = 28
 
 abbrev pub QUEUE : ℕ
-QUEUE = 22
+QUEUE = 29
 
 -- ---- a word for each mailbox entry
 abbrev pub MAIL-OWNER : ℕ
-MAIL-OWNER = 23
+MAIL-OWNER = 30
 
 abbrev pub MAIL-DATA : ℕ
-MAIL-DATA = 24
+MAIL-DATA = 31
 
 abbrev pub ARRIVAL : ℕ
-ARRIVAL = 25
+ARRIVAL = 32
 
--- ---- a word for each data entry
+-- ---- a word for each data entry; the last four are for those that hold a bus's value
 abbrev pub SENDER : ℕ
-SENDER = 26
+SENDER = 33
 
 abbrev pub LENGTH : ℕ
-LENGTH = 27
+LENGTH = 34
+
+abbrev pub VALUE-BUS : ℕ
+VALUE-BUS = 35
+
+abbrev pub READERS : ℕ
+READERS = 36
+
+abbrev pub PUBLISHED : ℕ
+PUBLISHED = 37
+
+abbrev pub ISSUE : ℕ
+ISSUE = 38
 
 -- ---- a word for each link
 abbrev pub LINK-ONE : ℕ
-LINK-ONE = 28
+LINK-ONE = 39
 
 abbrev pub LINK-TWO : ℕ
-LINK-TWO = 29
+LINK-TWO = 40
 
 -- ---- a word for each monitor
 abbrev pub WATCHER : ℕ
-WATCHER = 30
+WATCHER = 41
 
 abbrev pub WATCHED : ℕ
-WATCHED = 31
+WATCHED = 42
 
 abbrev pub MONITOR-AGE : ℕ
-MONITOR-AGE = 32
+MONITOR-AGE = 43
 
 -- ---- a word for each timer
 abbrev pub TIMER-OWNER : ℕ
-TIMER-OWNER = 33
+TIMER-OWNER = 44
 
 abbrev pub TIMER-AGE : ℕ
-TIMER-AGE = 34
+TIMER-AGE = 45
 
 abbrev pub DUE : ℕ
-DUE = 35
+DUE = 46
 
 abbrev pub INTERVAL : ℕ
-INTERVAL = 36
+INTERVAL = 47
 
 -- ---- the words past the needed ones; the payload area, a byte each; the bytes past it
 abbrev pub REST : ℕ
-REST = 37
+REST = 48
 
 abbrev pub PAYLOAD : ℕ
-PAYLOAD = 38
+PAYLOAD = 49
 
 abbrev pub PAST : ℕ
-PAST = 39
+PAST = 50

@@ -20,6 +20,23 @@ MOST-MONITORS = 128
 abbrev pub MOST-TIMERS : ℕ
 MOST-TIMERS = 64
 
+-- ---- buses: "up to 32 buses .., each with 1 to 16 entries and 1 to 32 subscribers"
+abbrev pub MOST-BUSES : ℕ
+MOST-BUSES = 32
+
+abbrev pub MOST-VALUES : ℕ
+MOST-VALUES = 16
+
+abbrev pub MOST-SEATS : ℕ
+MOST-SEATS = 32
+
+-- "Entries can end after a number of reads (to 32) or an age (to 2^31 - 1 ms)"
+abbrev pub MOST-READS : ℕ
+MOST-READS = 32
+
+abbrev pub LONGEST-AGE : ℕ
+LONGEST-AGE = 2 ^ 31 - 1
+
 -- ---- "An actor or timer id is age × 64 + slot, a monitor id age × 128 + slot"
 abbrev pub ACTOR-FACTOR : ℕ
 ACTOR-FACTOR = 64
@@ -88,10 +105,10 @@ ALWAYS = 2 ^ 64 - 1
 abbrev pub LAST-REASON : ℕ
 LAST-REASON = 65535
 
--- ---- "the number of words needed .., at most 4,096"
+-- ---- "the number of words needed"; "the table may have 6,144 words"
 abbrev pub WORDS-MOST : ℕ
-WORDS-MOST = 4096
+WORDS-MOST = 6144
 
 -- a slot, an entry or a count below this is small enough that no sum of a few of them overflows
 abbrev pub SAFE : ℕ
-SAFE = 4096
+SAFE = 8192

@@ -6,8 +6,8 @@ use mathlib.Core.List.{List, [], _∷_, _++_}
 use lib.ListN.{length, getD, set, take, drop, replicate}
 use lib.Dec.{eqb, ltb}
 use Rattle.tables.specs.Columns.{ACTORS, DATAS, LINKS, MAILS, MONITORS, PAST, PAYLOAD, REST, TIMERS}
-use Rattle.tables.specs.Sizes.{BIT-WORDS, BITS, FIXED, HEADS, PER-ACTOR, PER-DATA, PER-LINK, PER-MAIL, PER-MONITOR, PER-TIMER, SPARES}
-use Rattle.tables.specs.Limits.{ENTRY-BYTES, MOST-ACTORS, MOST-DATAS, MOST-LINKS, MOST-MAILS, MOST-MONITORS, MOST-TIMERS}
+use Rattle.tables.specs.Sizes.{ALL-SEATS, BIT-WORDS, BITS, FIXED, HEADS, PER-ACTOR, PER-BUS, PER-DATA, PER-LINK, PER-MAIL, PER-MONITOR, PER-TIMER, SEATINGS, SPARES}
+use Rattle.tables.specs.Limits.{ENTRY-BYTES, MOST-ACTORS, MOST-BUSES, MOST-DATAS, MOST-LINKS, MOST-MAILS, MOST-MONITORS, MOST-TIMERS}
 use Rattle.tables.specs.declared.Caps.{Caps}
 
 abbrev pub State : Type 0
@@ -51,12 +51,14 @@ sizes k =
     replicate HEADS 1
     ++ (replicate 1 SPARES
     ++ (replicate BITS BIT-WORDS
+    ++ (replicate PER-BUS MOST-BUSES
+    ++ (replicate SEATINGS ALL-SEATS
     ++ (replicate PER-ACTOR (k .actors)
     ++ (replicate PER-MAIL (k .mails)
     ++ (replicate PER-DATA (k .datas)
     ++ (replicate PER-LINK (k .links)
     ++ (replicate PER-MONITOR (k .monitors)
-    ++ replicate PER-TIMER (k .timers))))))))
+    ++ replicate PER-TIMER (k .timers))))))))))
 
 -- "Data entry n begins at byte 256 × n of the area"
 abbrev pub sizesP : Caps → List ℕ

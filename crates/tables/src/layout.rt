@@ -7,6 +7,7 @@ ghost use Rattle.tables.specs.Limits.{SAFE};
 ghost use Rattle.tables.specs.State.{capsOf, needed, neededP, start, size, InRange};
 use crate::Caps;
 use crate::columns::ACTORS;
+use crate::columns::BUS_SIZE;
 use crate::columns::DATAS;
 use crate::columns::LINK_ONE;
 use crate::columns::LINKS;
@@ -14,6 +15,7 @@ use crate::columns::MAIL_FREE;
 use crate::columns::MAIL_OWNER;
 use crate::columns::MAILS;
 use crate::columns::MONITORS;
+use crate::columns::SEAT;
 use crate::columns::SENDER;
 use crate::columns::SPARE;
 use crate::columns::STATE;
@@ -21,10 +23,14 @@ use crate::columns::TIMER_OWNER;
 use crate::columns::TIMERS;
 use crate::columns::WATCHER;
 use crate::limits::ENTRY_BYTES;
+use crate::limits::MOST_BUSES;
+use crate::sizes::ALL_SEATS;
 use crate::sizes::BIT_WORDS;
+use crate::sizes::BITS;
 use crate::sizes::FIXED;
 use crate::sizes::HEADS;
 use crate::sizes::PER_ACTOR;
+use crate::sizes::PER_BUS;
 use crate::sizes::PER_DATA;
 use crate::sizes::PER_LINK;
 use crate::sizes::PER_MAIL;
@@ -84,8 +90,12 @@ pub fn bytes_needed(k: Caps) -> usize
     ENTRY_BYTES * k.datas
 }
 
-// The first word of the free bits.
+// The first word of the free bits, of the buses, and of the seats.
 const BITS_FROM: usize = HEADS + SPARES;
+
+const BUSES_FROM: usize = BITS_FROM + BITS * BIT_WORDS;
+
+const SEATS_FROM: usize = BUSES_FROM + PER_BUS * MOST_BUSES;
 
 // The i-th of columns of one size, the first of which lies at a place.
 fn nth(from: usize, size: usize, i: usize) -> Place
@@ -109,8 +119,14 @@ pub fn place_of(k: Caps, c: usize) -> Place
     if c < MAIL_FREE {
         return nth(HEADS, SPARES, c - SPARE);
     }
-    if c < STATE {
+    if c < BUS_SIZE {
         return nth(BITS_FROM, BIT_WORDS, c - MAIL_FREE);
+    }
+    if c < SEAT {
+        return nth(BUSES_FROM, MOST_BUSES, c - BUS_SIZE);
+    }
+    if c < STATE {
+        return nth(SEATS_FROM, ALL_SEATS, c - SEAT);
     }
     if c < MAIL_OWNER {
         return nth(FIXED, k.actors, c - STATE);

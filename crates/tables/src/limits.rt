@@ -13,6 +13,17 @@ pub const MOST_MONITORS: usize = 128;
 
 pub const MOST_TIMERS: usize = 64;
 
+// Buses, the values on one, the seats of one; the most reads after which a value ends, and the longest age, in milliseconds.
+pub const MOST_BUSES: usize = 32;
+
+pub const MOST_VALUES: usize = 16;
+
+pub const MOST_SEATS: usize = 32;
+
+pub const MOST_READS: usize = 32;
+
+pub const LONGEST_AGE: u64 = 2_147_483_647;
+
 // An id is age × factor + slot.
 pub const ACTOR_FACTOR: u64 = 64;
 

@@ -8,16 +8,17 @@ use mathlib.Core.List.{List, [], _∷_, _++_}
 use lib.ListN.{getD, length, take}
 use lib.Dec.{eqb, lit<}
 use Rattle.ledger.specs.Ledger.{Ledger, Link, ties, withTies}
-use Rattle.ledger.specs.Reckon.{clears, cleared, disarms, endLinks, endMonitors, endTimers, partnerNotes, parts, sent, unlinks, unsees, unwatches, watcherNotes}
+use Rattle.ledger.specs.Reckon.{clears, cleared, disarms, endLinks, endMonitors, endReaders, endTimers, partnerNotes, parts, quits, sent, unlinks, unsees, unwatches, watcherNotes}
 use Rattle.pools.proofs.BoolLaws.{split}
 use Rattle.tables.specs.declared.Caps.{Caps}
-use Rattle.tables.specs.Columns.{DUE, HAND, INTERVAL, LINK-ONE, LINK-TWO, MAIL-OWNER, STATE, TIMER-OWNER, WATCHED, WATCHER}
-use Rattle.tables.specs.State.{State}
+use Rattle.tables.specs.Columns.{BUSES, DUE, HAND, INTERVAL, LINK-ONE, LINK-TWO, MAIL-OWNER, SEAT, STATE, TIMER-OWNER, WATCHED, WATCHER}
+use Rattle.tables.specs.State.{State, head}
 use Rattle.rules.specs.Terms.{actorId, alive}
 use Rattle.rules.specs.Aged.{monitorPool, timerPool}
 use Rattle.rules.specs.Agrees.{Agrees}
-use Rattle.rules.specs.Calls.{clearing, disarming, dropMonitors, dropTimers, steps, told, unlinking, unseeing, unwatching}
+use Rattle.rules.specs.Calls.{clearing, disarming, dropMonitors, dropTimers, quitting, steps, told, unlinking, unseeing, unwatching}
 use Rattle.rules.proofs.Frames.Actions.{EYE-CUT, LINK-CUT, MAILED, beside-emptied}
+use Rattle.rules.proofs.Frames.Buses.{QUIT, beside-leaveBuses}
 use Rattle.rules.proofs.Frames.Calls.{beside-cutLinks, beside-cutMonitors, beside-own}
 use Rattle.rules.proofs.Reckoned.Parts.{agrees-monitors}
 use Rattle.rules.proofs.Frames.Wrote.{mem, wrote-none}
@@ -30,9 +31,11 @@ use Rattle.rules.proofs.Kept.Messages.{emptied-empties, emptied-hand, e
 use Rattle.rules.proofs.Reckoned.Messages.{emptied-agrees}
 use Rattle.rules.proofs.Kept.Exit.{Cut, Unseen, cut-none, cutLinks-cuts, cutMonitors-cuts, unlinked, unseen-none, unwatched}
 use Rattle.rules.proofs.Reckoned.Exit.{along-told, eye-notices, eyes-stay, eyes-worn, link-notices, linkNotes, links-along, links-stay, monitors-along}
+use Rattle.rules.proofs.Kept.Seats.{leaveBuses-keeps, leaveBuses-none}
+use Rattle.rules.proofs.Reckoned.Readers.{leaveBuses-agrees}
 use Rattle.rules.proofs.Reckoned.Pages.{within-all, within-end, within-those}
 use Rattle.rules.proofs.Ends.Steps.{Bared, Calm, Gone, SLOTTED, Lawful, Laws, Told-of, _then_, done, gone-of, lives-on, of-gone, of-zero, zero-of}
-use Rattle.rules.proofs.Frames.TrimLaws.{trim-cutLinks, trim-cutMonitors, trim-dropMonitors, trim-dropTimers, trim-emptied}
+use Rattle.rules.proofs.Frames.TrimLaws.{trim-cutLinks, trim-cutMonitors, trim-dropMonitors, trim-dropTimers, trim-emptied, trim-leaveBuses}
 
 -- ---- columns of slots of which nothing is slot a's
 -- where no entry in range names it
@@ -221,6 +224,29 @@ disarming-law = record {
   trims = λ k a me reason s. ap (told 0 0) (trim-dropTimers a (k .timers) s);
 }
 
+-- ---- "exit also removes subscriptions"
+pub quits-calm : (me reason : ℕ) (l : Ledger) → Calm quits me reason l
+unfolding endReaders
+quits-calm me reason l = record { order = within-end (within-all (l .mail .boxes)); people = refl }
+
+abbrev pub quitting-law : Lawful quitting quits
+quitting-law = record {
+  needs = [];
+  writes = QUIT;
+  spares = [];
+  clears = SEAT ∷ [];
+  beside = λ k a me reason s. beside-leaveBuses k a (head s BUSES) s;
+  keeps = λ k a reason s g there b. record {
+    good = leaveBuses-keeps k a s g;
+    there = lives-on a (beside-leaveBuses k a (head s BUSES) s) refl there;
+    spared = tt;
+    cleared = (gone-of SEAT a _ refl (leaveBuses-none k a s g), tt);
+  };
+  reckoned = λ k a reason s l g there b r. record { agrees = leaveBuses-agrees k l s g r a there; sent = refl; due = refl };
+  calm = quits-calm;
+  trims = λ k a me reason s. ap (told 0 0) (trim-leaveBuses k a (head s BUSES) s);
+}
+
 -- ---- ALL THE LAWS, in the order of the steps
 abbrev pub laws : Laws steps parts
-laws = clearing-law then unlinking-law then unseeing-law then unwatching-law then disarming-law then done
+laws = clearing-law then unlinking-law then unseeing-law then unwatching-law then disarming-law then quitting-law then done

@@ -14,13 +14,14 @@ use Rattle.pools.proofs.BoolLaws.{split, true-false, flag-eq}
 use Rattle.pools.proofs.ListLaws.{occurs-place}
 use Rattle.pools.proofs.PoolLaws.{lowest-at, lowest-first}
 use Rattle.tables.specs.declared.Caps.{Caps}
-use Rattle.tables.specs.Columns.{AGE, ARRIVED, CLOCK, DEADLINE, DUE, HAND, INTERVAL, LINK-ONE, LINK-TWO, MAIL-DATA, MAIL-FREE, MAIL-OWNER, MONITOR-AGE, PAYLOAD, PRIORITY, QUEUE, QUEUED, REASON, RUNNING, SENDER, STATE, TIMER-AGE, TIMER-OWNER, WANT-CLASS, WANT-SENDER, WANT-TAG, WATCHED, WATCHER}
+use Rattle.tables.specs.Columns.{AGE, ARRIVED, BUS-SEATS, BUSES, CLOCK, DEADLINE, DUE, HAND, INTERVAL, ISSUED, LINK-ONE, LINK-TWO, MAIL-DATA, MAIL-FREE, MAIL-OWNER, MONITOR-AGE, PAYLOAD, PRIORITY, QUEUE, QUEUED, REASON, RUNNING, SEAT, SENDER, STATE, TIMER-AGE, TIMER-OWNER, WANT-CLASS, WANT-SENDER, WANT-TAG, WATCHED, WATCHER}
 use Rattle.tables.specs.State.{State, at, head, poke, with-col}
 use Rattle.tables.specs.Action.{pull}
 use Rattle.rules.specs.Rule.{Holds}
 use Rattle.rules.specs.Terms.{FREE, RUNNABLE, RUNS, WAITS, alive, runner}
 use Rattle.rules.specs.Sound.{actorRule, endsRule, unusedRule, onceRule, queueRule, waitRule}
 use Rattle.rules.specs.Actions.{halt, unwait}
+use Rattle.rules.specs.Buses.{inSeat, seatAt}
 use Rattle.rules.specs.Aged.{endUse}
 use Rattle.rules.specs.Calls.{loosen, placeOf, unqueue, vacate}
 use Rattle.rules.proofs.Frames.Wrote.{Beside, Wrote, beside-of, beside-poke, beside-pull, beside-still, beside-within, mem, wrote-none, wrote-poke, wrote-pull, wrote-within}
@@ -32,7 +33,7 @@ use Rattle.rules.proofs.Lists.Columns.{alive-other, each-set, listed-le
 use Rattle.rules.proofs.Reckoned.Ledger.{alive-slot}
 use Rattle.rules.proofs.Lists.Ties.{set-cond}
 use Rattle.rules.proofs.Ends.Steps.{Bared, Gone, SLOTTED, all-at, of-gone, of-zero}
-use Rattle.rules.proofs.Kept.Clauses.{clock-fits, runner-fits, queue-fits, arrivals-fit}
+use Rattle.rules.proofs.Kept.Clauses.{arrivals-fit, buses-fit, clock-fits, queue-fits, rows-live-on, runner-fits, seat-lives, values-fit}
 
 -- ---- a column of which word a alone became 0
 pub record Zeroed (a : ℕ) (l m : List ℕ) : Type 0 where
@@ -182,10 +183,11 @@ ends-stay st a one two n m h = ((h .0 .0, stays st a one (h .0 .0) n (h .0 .1)),
 
 -- the columns of which nothing may be a slot's that is given back
 abbrev pub OWNED : List ℕ
-OWNED = MAIL-OWNER ∷ HAND ∷ LINK-ONE ∷ LINK-TWO ∷ WATCHER ∷ WATCHED ∷ TIMER-OWNER ∷ []
+OWNED = MAIL-OWNER ∷ HAND ∷ LINK-ONE ∷ LINK-TWO ∷ WATCHER ∷ WATCHED ∷ TIMER-OWNER ∷ SEAT ∷ []
 
 -- THE LAW of a slot that is given back: sound as before, once it owns nothing and nothing is aimed at it
 pub vacated-keeps : (k : Caps) (s u : State) (a : ℕ) → Good k s → Bared OWNED a s → Vacated k a s u → Good k u
+unfolding with-col
 vacated-keeps k s u a g bare v =
     let c = v .wrote .cols in
     let w = v .wants in
@@ -194,9 +196,9 @@ vacated-keeps k s u a g bare v =
     let none : (c : ℕ) → mem c OWNED ≡ true → mem c SLOTTED ≡ false → (e : ℕ) → at s c e ≡ suc a → ⊥ = λ c m n. of-gone c a (s c) n (all-at (λ c. Gone c a (s c)) OWNED bare c m) in
     let hand : at s HAND a ≡ 0 = of-zero HAND a (s HAND) refl (all-at (λ c. Gone c a (s c)) OWNED bare HAND refl) in
     patch k g (v .wrote) (
-    Part.head by (rw (c CLOCK refl, c ARRIVED refl) (
+    Part.head by (rw (c CLOCK refl, c ARRIVED refl, c ISSUED refl, c BUSES refl) (
       (clock-fits g, split (eqb (runner s) (suc a)) (λ q. rw (v .runs, q) (omega arith)) (λ q. rw (v .runs, q) (runner-fits g))),
-      (omega (arith, v .queued, queue-fits g), arrivals-fit g),
+      ((omega (arith, v .queued, queue-fits g), arrivals-fit g), (values-fit g, buses-fit g)),
     )) also
     Part.actors by (λ b h. each-set (λ b. b < k .actors → Holds (actorRule k u b)) a b
     (λ h. let x = g .actors a h in rw (zero, zero-at (v .level), zero-at (v .reason), c AGE refl, c HAND refl) ((omega arith, (omega arith, omega arith)), ((x .1 .0 .0, λ e. refl), x .1 .1)))
@@ -244,4 +246,6 @@ vacated-keeps k s u a g bare v =
             (stays (s STATE) a (at s TIMER-OWNER i) (omega (arith, p)) (none TIMER-OWNER refl refl i) (x .0), x .1),
       ),
     )) also
+    Part.rows by (rw (c BUS-SEATS refl, c SEAT refl, v .state) (rows-live-on g (set (s STATE) a 0)
+    (λ b n h m p. stays (s STATE) a (inSeat s b n) (omega (arith, p)) (none SEAT refl refl (seatAt b n)) (seat-lives g b n h m p)))) also
     done) refl

@@ -19,6 +19,7 @@ use Rattle.rules.specs.Calls.{handOver, linkEntry, linkOf, nextDue, next
 use Rattle.rules.proofs.Frames.Pools.{own-ends, use-begins, use-ends}
 use Rattle.rules.proofs.Kept.Exit.{tell-wrote}
 use Rattle.rules.proofs.Frames.Wrote.{Beside, beside-of, beside-over, beside-poke, beside-still, beside-within, wrote-none, wrote-poke}
+use Rattle.rules.proofs.Frames.Buses.{AIRED, beside-aired}
 use Rattle.rules.proofs.Frames.Actions.{EYE-CUT, LINK-CUT, LINKED, MAILED, POSTED, TIMED, beside-delist, beside-run, wrote-await, wrote-letGo, wrote-post, wrote-ready, wrote-rearm, wrote-tie, wrote-unwait}
 
 -- ---- exit
@@ -50,7 +51,7 @@ beside-own P a n s = beside-of (own-ends P a s n .wrote)
 
 -- ---- advance
 abbrev pub ADVANCED : List ℕ
-ADVANCED = CLOCK ∷ (TIMED ++ POSTED)
+ADVANCED = CLOCK ∷ (TIMED ++ (POSTED ++ AIRED))
 
 -- every timer that fires
 beside-fireAll : (k : Caps) (m : ℕ) (f : Fired) → Beside ADVANCED (f .state) (fireAll k m f .state)
@@ -72,7 +73,9 @@ beside-rouse k (suc m) s =
 -- advance
 pub beside-advance : (micros : ℕ) (k : Caps) (s : State) → Beside ADVANCED s (advanceEntry micros .work k s .state)
 beside-advance micros k s =
-    beside-over ADVANCED (beside-over ADVANCED (beside-poke (beside-still [] s) CLOCK 0 _) (beside-fireAll k (k .timers) _) refl) (beside-rouse k (k .actors) _) refl
+    beside-over ADVANCED
+    (beside-over ADVANCED (beside-over ADVANCED (beside-poke (beside-still [] s) CLOCK 0 _) (beside-fireAll k (k .timers) _) refl) (beside-rouse k (k .actors) _) refl)
+    (beside-aired _) refl
 
 -- ---- the others
 -- spawn

@@ -6,15 +6,16 @@ use mathlib.Core.List.{List, [], _∷_}
 use lib.IntN.{ℤ}
 use lib.Dec.{eqb, ltb}
 use Rattle.ledger.specs.Call.{Op, Test}
-use Rattle.ledger.specs.Call.Op.{advance, after, cancel, demonitor, every, exit, link, monitor, next, notify, receive, report, show, shown, spawn, unlink, yield}
+use Rattle.ledger.specs.Call.Op.{advance, after, bus, cancel, demonitor, every, exit, link, monitor, next, notify, publish, read, receive, report, show, shown, spawn, subscribe, unlink, unsubscribe, yield}
 use Rattle.pools.specs.Slot.{slotOf}
 use Rattle.pools.proofs.BoolLaws.{split}
 use Rattle.tables.specs.declared.Caps.{Caps}
-use Rattle.tables.specs.Columns.{ACTORS, AGE, ARRIVED, CLOCK, DATA-FREE, DATAS, LINKS, MAIL-FREE, MAILS, MONITORS, PAST, PRIORITY, QUEUE, QUEUED, REST, RUNNING, TIMERS}
+use Rattle.tables.specs.Columns.{ACTORS, AGE, ARRIVED, CLOCK, DATA-FREE, DATAS, ISSUED, LINKS, MAIL-FREE, MAILS, MONITORS, PAST, PRIORITY, QUEUE, QUEUED, REST, RUNNING, TIMERS}
 use Rattle.tables.specs.Limits.{ACTOR-FACTOR}
 use Rattle.tables.specs.State.{State, at, head, poke}
 use Rattle.rules.specs.Terms.{actorId, runner}
 use Rattle.rules.specs.Actions.{letGo}
+use Rattle.rules.specs.Buses.{aired, oldestUnread}
 use Rattle.rules.specs.Calls.{Ans, Fired, Out, Told, deadlineAt, depart, ended, entry, fireAll, fired, firstHead, firstMatch, guarded, linkFor, linkOf}
 use Rattle.rules.specs.Calls.{notAtAll, out, receiveBare, refusal, rouse, ruled, sleep, slotFor, steps, through, told, vacate}
 use Rattle.rules.specs.Host.{fresh, freed, stated, zeroed}
@@ -23,7 +24,7 @@ use Rattle.rules.specs.Trim.{newly, past, trim}
 use Rattle.rules.proofs.Ends.Steps.{through-trims}
 use Rattle.rules.proofs.Ends.Laws.{laws}
 use Rattle.rules.proofs.Frames.TrimLaws.{Trims, here, of, t-poke, t-ready, t-run, t-await, t-disarm, t-tie, t-unwatch, trim-arm, trim-watch, trim-post}
-use Rattle.rules.proofs.Frames.TrimLaws.{trim-letGo, trim-handOver, trim-firstHead, trim-fireAll, trim-rouse, trim-vacate, trimT}
+use Rattle.rules.proofs.Frames.TrimLaws.{trim-aired, trim-broadcast, trim-letGo, trim-handOver, trim-firstHead, trim-fireAll, trim-makeBus, trim-readOff, trim-rouse, trim-sitDown, trim-standUp, trim-vacate, trimT}
 
 -- ---- the rules
 -- an answer, and its state without what lies past
@@ -72,14 +73,22 @@ trim-work (monitor a) k s = (refl, left (of (trim-watch s _ _ _)))
 trim-work (demonitor a) k s = (refl, left (t-unwatch (here s) _))
 trim-work (exit a) k s = (refl, ap (λ (t : Told). out (ended 0 (t .sent) (t .lost)) (t .state)) (trim-depart k (runner s - 1) a s))
 trim-work (advance a) k s =
-    let c = head s CLOCK + a in (
+    let c = head s CLOCK + a in
+    let u = fireAll k (k .timers) (fired 0 (poke s CLOCK 0 c)) .state in (
       refl,
-      left (of (trim-rouse k (k .actors) _))
-          ∙ ap (λ (f : Fired). out (record { no = 0; fired = f .count }) (rouse k (k .actors) (f .state)))
+      left (of (trim-aired (rouse k (k .actors) u) ∙ ap aired (trim-rouse k (k .actors) u)))
+          ∙ ap (λ (f : Fired). out (record { no = 0; fired = f .count }) (aired (rouse k (k .actors) (f .state))))
           (trim-fireAll k (k .timers) (fired 0 (poke s CLOCK 0 c))
           ∙ ap (λ (u : State). fireAll k (k .timers) (fired 0 u)) (t-poke (here s) CLOCK 0 c refl .is)),
     )
 trim-work report k s = (refl, refl)
+trim-work (bus a b c d) k s = (refl, left (of (trim-makeBus s a b c d)))
+trim-work (publish b m) k s = (refl, left (of (trim-broadcast k s b m)))
+trim-work (subscribe b) k s = (refl, left (of (trim-sitDown s b _ _)))
+trim-work (unsubscribe b) k s = (refl, left (of (trim-standUp k s b _)))
+trim-work (read b n) k s =
+    let j = oldestUnread s b (runner s) in
+    (refl, split (ltb j (head s ISSUED)) (λ q. rw q (left (of (trim-readOff s b _ j)))) (λ q. rw q))
 
 -- the same tests, then works that do the same
 trim-guarded : {A : Type 0} (refusal : ℕ → A) (ts : List Test) (s : State) (x y : Out A) → trimO x ≡ y → trimO (guarded refusal ts s x) ≡ guarded refusal ts (trim s) y

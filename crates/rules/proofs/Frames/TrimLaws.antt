@@ -7,15 +7,16 @@ use lib.ListN.{getD, set}
 use lib.Seq.{sets}
 use lib.Dec.{eqb, ltb}
 use borrow.Author.Tests.{eqb-true}
-use Rattle.pools.specs.Bits.{released, taken}
+use Rattle.pools.specs.Bits.{cleared, released, taken}
 use Rattle.pools.proofs.BoolLaws.{split}
 use Rattle.records.specs.Header.{packed}
 use Rattle.records.specs.Records.{tickBytes}
 use Rattle.tables.specs.declared.Caps.{Caps}
+use Rattle.tables.specs.Columns.{BUS-AGE, BUS-READS, BUS-SEATS, BUS-SIZE, BUSES, ISSUE, ISSUED, PUBLISHED, READERS, SEAT, VALUE-BUS}
 use Rattle.tables.specs.Columns.{ARRIVAL, ARRIVED, DATA-FREE, DEADLINE, DUE, HAND, INTERVAL, LENGTH, LINK-ONE, LINK-TWO, MAIL-DATA, MAIL-FREE, MAIL-OWNER}
 use Rattle.tables.specs.Columns.{MONITOR-AGE, PAYLOAD, PRIORITY, QUEUE, QUEUED, REASON, RUNNING, SENDER, STATE, TIMER-AGE, TIMER-OWNER, WANT-CLASS, WANT-SENDER}
 use Rattle.tables.specs.Columns.{WANT-TAG, WATCHED, WATCHER}
-use Rattle.tables.specs.Limits.{ENTRY-BYTES}
+use Rattle.tables.specs.Limits.{ENTRY-BYTES, MOST-SEATS}
 use Rattle.tables.specs.State.{State, at, head, poke, with-col}
 use Rattle.rules.specs.Aged.{Aged, beginUse, endOwn, endUse, monitorPool, timerPool}
 use Rattle.tables.specs.Action.{closed, freeBit, pull, push, takeBit, write}
@@ -24,6 +25,8 @@ use Rattle.rules.specs.Actions.{dataFor, delist, enlist, fill, hasRoom, 
 use Rattle.rules.specs.Calls.{Fired, Told, arm, await, cutLink, cutLinks, cutMonitor, cutMonitors, dataOf, disarm, dropAll, dropFirst, dropMonitors}
 use Rattle.rules.specs.Calls.{dropTimers, emptied, fire, fireAll, fireNext, fired, firstHead, firstOf, handOver, linkOf, loosen, nextDue, nextOverdue}
 use Rattle.rules.specs.Calls.{placeOf, rearm, rouse, run, tell, tie, told, unqueue, unwatch, vacate, watch}
+use Rattle.rules.specs.Buses.{aired, airing, audience, broadcast, busFull, evict, forget, isStale, issue, leaveBuses, makeBus, oldestOn, readOff, readOut, retire}
+use Rattle.rules.specs.Buses.{seatAt, seatOf, signed, sitDown, sits, standUp, valueAt}
 use Rattle.rules.specs.Trim.{past, trim}
 
 -- t is s without what lies past: a record, so that both states can be read off its type
@@ -199,6 +202,89 @@ trim-rouse k zero s = refl
 trim-rouse k (suc m) s =
     let a = nextOverdue k s in
     split (eqb a 0) (λ q. rw q) (λ q. rw q (trim-rouse k m (wake s (a - 1) TIMEOUT) ∙ ap (rouse k m) (t-ready (t-unwait (here s) (a - 1)) (a - 1) TIMEOUT .is)))
+
+-- ---- buses
+-- a bus made, and a seat taken
+pub trim-makeBus : (s : State) (entries subscribers reads age : ℕ) → trim (makeBus s entries subscribers reads age) ≡ makeBus (trim s) entries subscribers reads age
+unfolding makeBus
+trim-makeBus s entries subscribers reads age =
+    let b = head s BUSES in
+    t-poke (t-poke (t-poke (t-poke (t-poke (here s) BUS-SIZE b entries refl) BUS-SEATS b subscribers refl) BUS-READS b reads refl) BUS-AGE b age refl) BUSES 0 (b + 1) refl .is
+
+pub trim-sitDown : (s : State) (b n a : ℕ) → trim (sitDown s b n a) ≡ sitDown (trim s) b n a
+unfolding sitDown
+trim-sitDown s b n a = t-poke (here s) SEAT (seatAt b n) a refl .is
+
+-- those who may read what is published now
+trim-audience : (s : State) (b n : ℕ) → audience (trim s) b n ≡ audience s b n
+unfolding audience
+trim-audience s b zero = refl
+trim-audience s b (suc n) = rw (trim-audience s b n)
+
+-- a value begins, and one ends
+pub trim-issue : (s : State) (d b : ℕ) (m : List ℕ) → trim (issue s d b m) ≡ issue (trim s) d b m
+unfolding issue
+trim-issue s d b m =
+    rw (trim-audience s b MOST-SEATS)
+    (t-push (t-poke (t-poke (t-poke (t-fill (here s) d 0 0 m) VALUE-BUS d _ refl) READERS d _ refl) PUBLISHED d _ refl) ISSUE ISSUED (suc d) refl refl .is)
+
+pub trim-retire : (s : State) (j : ℕ) → trim (retire s j) ≡ retire (trim s) j
+unfolding retire
+trim-retire s j =
+    let d = valueAt s j in
+    t-pull (t-poke (t-poke (t-poke (t-unfill (here s) d) VALUE-BUS d 0 refl) READERS d 0 refl) PUBLISHED d 0 refl) ISSUE ISSUED j refl refl .is
+
+-- the oldest of a full bus ends, and what is published then
+trim-evict : (s : State) (b : ℕ) → trim (evict s b) ≡ evict (trim s) b
+unfolding evict
+trim-evict s b = split (busFull s b) (λ q. rw q (trim-retire s (oldestOn s b))) (λ q. rw q)
+
+pub trim-broadcast : (k : Caps) (s : State) (b : ℕ) (m : List ℕ) → trim (broadcast k s b m) ≡ broadcast k (trim s) b m
+unfolding broadcast
+trim-broadcast k s b m =
+    let u = evict s b in
+    trim-issue u (dataFor k u) b m ∙ ap (λ (u : State). issue u (dataFor k u) b m) (trim-evict s b)
+
+-- one is read
+pub trim-readOff : (s : State) (b n j : ℕ) → trim (readOff s b n j) ≡ readOff (trim s) b n j
+unfolding readOff
+trim-readOff s b n j =
+    let d = valueAt s j in
+    let u = poke s READERS d (signed (at s READERS d) n) in
+    let e : trim u ≡ poke (trim s) READERS d (signed (at s READERS d) n) = t-poke (here s) READERS d _ refl .is in
+    split (readOut u b d) (λ q. rw q (trim-retire u j)) (λ q. rw q)
+    ∙ ap (λ (u : State). cond (readOut u b d) (retire u j) u) e
+
+-- the one in a seat may read nothing any more, and gives it up; those of a slot on every bus
+trim-forget : (b n d : ℕ) (s : State) → trim (forget b n d s) ≡ forget b n d (trim s)
+unfolding forget
+trim-forget b n zero s = refl
+trim-forget b n (suc d) s =
+    let u = forget b n d s in
+    split (eqb (at u VALUE-BUS d) (suc b)) (λ q. rw q (t-poke (here u) READERS d _ refl .is)) (λ q. rw q)
+    ∙ ap (λ (u : State). cond (eqb (at u VALUE-BUS d) (suc b)) (poke u READERS d (cleared (at u READERS d) (MOST-SEATS + n))) u) (trim-forget b n d s)
+
+pub trim-standUp : (k : Caps) (s : State) (b n : ℕ) → trim (standUp k s b n) ≡ standUp k (trim s) b n
+unfolding standUp
+trim-standUp k s b n = t-poke (of (trim-forget b n (k .datas) s)) SEAT (seatAt b n) 0 refl .is
+
+pub trim-leaveBuses : (k : Caps) (a n : ℕ) (s : State) → trim (leaveBuses k a n s) ≡ leaveBuses k a n (trim s)
+unfolding leaveBuses
+trim-leaveBuses k a zero s = refl
+trim-leaveBuses k a (suc b) s =
+    let u = leaveBuses k a b s in
+    split (sits u b (suc a)) (λ q. rw q (trim-standUp k u b (seatOf u b (suc a)))) (λ q. rw q)
+    ∙ ap (λ (u : State). cond (sits u b (suc a)) (standUp k u b (seatOf u b (suc a))) u) (trim-leaveBuses k a b s)
+
+-- those end that have reached their age
+trim-airing : (i : ℕ) (s : State) → trim (airing i s) ≡ airing i (trim s)
+unfolding airing
+trim-airing zero s = refl
+trim-airing (suc i) s =
+    trim-airing i (cond (isStale s i) (retire s i) s) ∙ ap (airing i) (split (isStale s i) (λ q. rw q (trim-retire s i)) (λ q. rw q))
+
+pub trim-aired : (s : State) → trim (aired s) ≡ aired (trim s)
+trim-aired s = trim-airing (head s ISSUED) s
 
 -- ---- exit
 -- what is in its mailbox and its hand

@@ -1,24 +1,26 @@
 -- What a sound state says, clause by clause: names for the clauses of the rules of specs/Sound.antt that others cite.
 use Prim.Native.Nat.{ℕ, suc, _-_, _≤_, _<_}
+use native.Mathlib.Decide.{decLt}
 use native.Mathlib.Omega.{arith}
-use mathlib.Core.Path.{_≡_}
+use mathlib.Core.Path.{_≡_, refl}
 use mathlib.Core.Bool.{Bool, true, false, not}
 use mathlib.Core.List.{List}
 use lib.ListN.{getD, set, List·getD-eq-default}
 use lib.Seq.{getD-set-same}
 use lib.Dec.{T, eqb, ltb, lit<}
-use borrow.Author.Tests.{eqb-true, eqb-false, ltb-true, ltb-false}
+use borrow.Author.Tests.{eqb-true, eqb-false, ltb-true, ltb-false, not-true, not-false}
 use Rattle.pools.specs.Bits.{free}
 use Rattle.pools.specs.Slot.{unused}
 use Rattle.pools.proofs.BoolLaws.{split}
 use Rattle.tables.specs.declared.Caps.{Caps}
 use Rattle.tables.specs.Columns.{ACTORS, AGE, ARRIVED, CLOCK, DATA-FREE, DATAS, DEADLINE, DUE, HAND, INTERVAL, LENGTH, LINK-ONE, LINK-TWO, LINKS, MAIL-DATA}
 use Rattle.tables.specs.Columns.{MAIL-FREE, MAIL-OWNER, MAILS, MONITOR-AGE, MONITORS, QUEUE, QUEUED, REST, STATE, TIMER-AGE, TIMER-OWNER, TIMERS, WANT-CLASS}
-use Rattle.tables.specs.Columns.{WANT-SENDER, WANT-TAG, WATCHED, WATCHER}
-use Rattle.tables.specs.Limits.{CLOCK-END, DEADLINE-END, DUE-END, LONGEST, OLDEST, PAYLOAD-MOST}
+use Rattle.tables.specs.Columns.{BUS-AGE, BUS-READS, BUS-SEATS, BUS-SIZE, BUSES, ISSUE, ISSUED, VALUE-BUS, WANT-SENDER, WANT-TAG, WATCHED, WATCHER}
+use Rattle.tables.specs.Limits.{CLOCK-END, DEADLINE-END, DUE-END, LONGEST, LONGEST-AGE, MOST-BUSES, MOST-READS, MOST-SEATS, MOST-VALUES, OLDEST, PAYLOAD-MOST}
 use Rattle.tables.specs.State.{State, at, head, size, with-col}
 use Rattle.rules.specs.Rule.{Holds}
-use Rattle.rules.specs.Sound.{endsRule, linkRule, mailRule, monitorRule, timerRule}
+use Rattle.rules.specs.Sound.{endsRule, linkRule, mailRule, monitorRule, rowRule, timerRule}
+use Rattle.rules.specs.Buses.{inSeat}
 use Rattle.rules.specs.Terms.{WAITS, alive, runner}
 use Rattle.rules.specs.Good.{Good}
 
@@ -76,7 +78,7 @@ module _ {k : Caps} {s : State} (g : Good k s) where
   pub states-timers : head s TIMERS ≡ k .timers
   states-timers = g .caps .1 .1 .1
 
-  -- ---- headRule: the clock, the runner and the lengths of the two lists are in range
+  -- ---- headRule: the clock, the runner, the lengths of the three lists and the number of buses are in range
   pub clock-fits : head s CLOCK ≤ CLOCK-END
   clock-fits = g .head .0 .0
 
@@ -84,10 +86,16 @@ module _ {k : Caps} {s : State} (g : Good k s) where
   runner-fits = g .head .0 .1
 
   pub queue-fits : head s QUEUED ≤ k .actors
-  queue-fits = g .head .1 .0
+  queue-fits = g .head .1 .0 .0
 
   pub arrivals-fit : head s ARRIVED ≤ k .mails
-  arrivals-fit = g .head .1 .1
+  arrivals-fit = g .head .1 .0 .1
+
+  pub values-fit : head s ISSUED ≤ k .datas
+  values-fit = g .head .1 .1 .0
+
+  pub buses-fit : head s BUSES ≤ MOST-BUSES
+  buses-fit = g .head .1 .1 .1
 
   -- ---- actorRule: the words of an actor are in range
   pub age-fits : (a : ℕ) → at s AGE a ≤ OLDEST
@@ -126,7 +134,8 @@ module _ {k : Caps} {s : State} (g : Good k s) where
   -- ---- dataRule: "Payloads are 0 to 252 bytes"
   pub length-fits : (d : ℕ) → at s LENGTH d ≤ PAYLOAD-MOST
   length-fits =
-      used-word LENGTH PAYLOAD-MOST (omega arith) (free (s DATA-FREE)) (λ d l q. g .datas d l .0 q .0 .1) (λ d l q. g .datas d l .1 (rw q) .0 .1 .0)
+      used-word LENGTH PAYLOAD-MOST (omega arith) (free (s DATA-FREE)) (λ d l q. g .datas d l .0 q .0 .1)
+      (λ d l q. split (eqb (at s VALUE-BUS d) 0) (λ z. g .datas d l .1 (rw q) .0 (eqb-true _ _ z) .0 .1 .0) (λ z. g .datas d l .1 (rw q) .1 (eqb-false _ _ z) .1 .0))
 
   -- ---- linkRule
   pub link-ends : (e : ℕ) → e < k .links → (at s LINK-ONE e ≡ 0 → ⊥) → Ends (s STATE) (at s LINK-ONE e) (at s LINK-TWO e)
@@ -156,6 +165,58 @@ module _ {k : Caps} {s : State} (g : Good k s) where
       used-word INTERVAL LONGEST (omega arith) (unused (s TIMER-OWNER))
       (λ i l q. g .timers i l .1 .0 (eqb-true _ _ q) .1) (λ i l q. g .timers i l .1 .1 (eqb-false _ _ q) .1 .1)
 
+  -- ---- busRule: the settings of a bus are in range, made or not
+  setting-fits : (c most b : ℕ) → c < REST → size k c ≡ MOST-BUSES → ((b : ℕ) → b < MOST-BUSES → at s c b ≤ most) → at s c b ≤ most
+  setting-fits c most b h e f = every-word c most h (λ i l. f i (rw e at l)) b
+
+  pub size-fits : (b : ℕ) → at s BUS-SIZE b ≤ MOST-VALUES
+  size-fits b =
+      setting-fits BUS-SIZE MOST-VALUES b (omega arith) refl (λ b l. split (ltb b (head s BUSES))
+      (λ q. g .buses b l .0 (ltb-true _ _ q) .0 .0 .1) (λ q. omega (arith, g .buses b l .1 (ltb-false _ _ q) .0 .0)))
+
+  pub seats-fit : (b : ℕ) → at s BUS-SEATS b ≤ MOST-SEATS
+  seats-fit b =
+      setting-fits BUS-SEATS MOST-SEATS b (omega arith) refl (λ b l. split (ltb b (head s BUSES))
+      (λ q. g .buses b l .0 (ltb-true _ _ q) .0 .1 .1) (λ q. omega (arith, g .buses b l .1 (ltb-false _ _ q) .0 .1)))
+
+  pub reads-fit : (b : ℕ) → at s BUS-READS b ≤ MOST-READS
+  reads-fit b =
+      setting-fits BUS-READS MOST-READS b (omega arith) refl (λ b l. split (ltb b (head s BUSES))
+      (λ q. g .buses b l .0 (ltb-true _ _ q) .1 .0) (λ q. omega (arith, g .buses b l .1 (ltb-false _ _ q) .1 .0)))
+
+  pub bus-age-fits : (b : ℕ) → at s BUS-AGE b ≤ LONGEST-AGE
+  bus-age-fits b =
+      setting-fits BUS-AGE LONGEST-AGE b (omega arith) refl (λ b l. split (ltb b (head s BUSES))
+      (λ q. g .buses b l .0 (ltb-true _ _ q) .1 .1) (λ q. omega (arith, g .buses b l .1 (ltb-false _ _ q) .1 .1)))
+
+  -- a bus that is made has room for a value and for a subscriber
+  pub bus-made : (b : ℕ) → b < head s BUSES → (1 ≤ at s BUS-SIZE b) × (1 ≤ at s BUS-SEATS b)
+  bus-made b h = let r = g .buses b (omega (arith, buses-fit)) .0 h .0 in (r .0 .0, r .1 .0)
+
+  -- ---- rowRule: who sits on a bus
+  pub seat-lives : (b n : ℕ) → b < MOST-BUSES → n < MOST-SEATS → (inSeat s b n ≡ 0 → ⊥) → alive (s STATE) (inSeat s b n - 1) ≡ true
+  seat-lives b n l m h = g .rows b l n m h .1 .0
+
+  pub seat-below : (b n : ℕ) → b < MOST-BUSES → n < MOST-SEATS → (inSeat s b n ≡ 0 → ⊥) → n < at s BUS-SEATS b
+  seat-below b n l m h = g .rows b l n m h .0
+
+  -- nobody sits twice on a bus
+  pub seat-once : (b m n : ℕ) → b < MOST-BUSES → m < MOST-SEATS → n < MOST-SEATS → (inSeat s b n ≡ 0 → ⊥) → inSeat s b m ≡ inSeat s b n → m ≡ n
+  seat-once b m n l lm ln h e =
+      elim (decLt m n) [
+        | yes y ↦ absurd (g .rows b l n ln h .1 .1 m y e)
+        | no y ↦ elim (decLt n m) [ yes z ↦ absurd (g .rows b l m lm (λ q. h (omega arith)) .1 .1 n z (omega arith)) | no z ↦ omega arith ]
+      ]
+
+  -- ---- issueRule, issuedRule and valueRule
+  pub issue-fits : (i : ℕ) → at s ISSUE i ≤ k .datas
+  issue-fits =
+      used-word ISSUE (k .datas) (omega arith) (λ i. not (ltb i (head s ISSUED))) (λ i l q. g .issues i l .1 (ltb-false _ _ (not-true _ q)))
+      (λ i l q. g .issues i l .0 (ltb-true _ _ (not-false _ q)) .1)
+
+  pub issue-some : (i : ℕ) → i < head s ISSUED → 1 ≤ at s ISSUE i
+  issue-some i h = g .issues i (omega (arith, values-fit)) .0 h .0
+
   -- ---- THE LAWS of other states: what asks that somebody lives is so there too, where those whom it names live
   module _ (states : List ℕ) where
     pub mails-live-on : ((e : ℕ) → e < k .mails → not (free (s MAIL-FREE) e) ≡ true → alive states (at s MAIL-OWNER e - 1) ≡ true)
@@ -183,3 +244,8 @@ module _ {k : Caps} {s : State} (g : Good k s) where
         → (i : ℕ) → i < k .timers → Holds (timerRule (with-col s STATE states) i)
     unfolding with-col
     timers-live-on lives i l = (g .timers i l .0, (g .timers i l .1 .0, λ n. (lives i l n, (due-fits i, interval-fits i))))
+
+    pub rows-live-on : ((b n : ℕ) → b < MOST-BUSES → n < MOST-SEATS → (inSeat s b n ≡ 0 → ⊥) → alive states (inSeat s b n - 1) ≡ true)
+        → (b : ℕ) → b < MOST-BUSES → Holds (rowRule (with-col s STATE states) b)
+    unfolding with-col
+    rows-live-on lives b l n m h = (seat-below b n l m h, (lives b n l m h, g .rows b l n m h .1 .1))

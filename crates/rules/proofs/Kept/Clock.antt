@@ -30,7 +30,7 @@ use Rattle.rules.proofs.Frames.Wrote.{Wrote, wrote-none, wrote-poke, wr
 use Rattle.rules.proofs.Frames.Pools.{use-ends}
 use Rattle.rules.proofs.Frames.Actions.{wrote-post, wrote-ready, wrote-rearm, wrote-unwait}
 use Rattle.rules.specs.Good.{Good, Late, atClock}
-use Rattle.rules.proofs.Kept.Clauses.{arrivals-fit, deadline-fits, deadline-unused, interval-fits, queue-fits, runner-fits}
+use Rattle.rules.proofs.Kept.Clauses.{deadline-fits, deadline-unused, interval-fits, runner-fits}
 use Rattle.rules.proofs.Kept.Groups as Part
 use Rattle.rules.proofs.Kept.Patch.{_by_also_, done, patch}
 use Rattle.rules.proofs.Lists.Least.{Least, least-is}
@@ -172,13 +172,18 @@ unfolding atClock poke with-col pairRule
 late-good k c s h none =
     let g = h .good in
     patch k g (subst (λ (x : State). Wrote (CLOCK ∷ []) (atClock s c) x) (clock-back s c) (wrote-poke (wrote-none (atClock s c)) CLOCK 0 (head s CLOCK))) (
-    Part.head by ((h .ends, runner-fits g), (queue-fits g, arrivals-fit g)) also
+    Part.head by ((h .ends, runner-fits g), g .head .1) also
     Part.waits by (λ a l. let (names, (class, _)) = g .waits a l in (names, (class, λ d. (later a l d, deadline-fits g a)))) also
+    Part.values by (λ d l. (g .values d l .0, λ n. let ((bus, time), masks) = g .values d l .1 n in ((bus, published time), masks))) also
     done) refl
   where
     -- who has a deadline has a later one
     later : (a : ℕ) → a < k .actors → (at s DEADLINE a ≡ 0 → ⊥) → head s CLOCK < at s DEADLINE a
     later a l d = leb-false (at s DEADLINE a) (head s CLOCK) (let q = none a l in rw (ne-eqb (at s DEADLINE a) 0 d) at q)
+
+    -- what was published by the earlier clock was by this one
+    published : {x : ℕ} → x ≤ head (atClock s c) CLOCK → x ≤ head s CLOCK
+    published l = omega (arith, clock-is s c (late-word k c s h), h .past)
 
 -- ---- "Then waiting actors whose deadline is at or before the clock become runnable with reason 2"
 -- whose deadline has come

@@ -23,7 +23,8 @@ Past s = (c : ℕ) → PAST < c → s c ≡ []
 -- ---- the groups of a sound state, and back
 pub every-of : (k : Caps) (s : State) → Good k s → Every groups k s
 every-of k s g =
-    let rest : Every (drop 13 groups) k s = (g .arrived, (g .filters, (g .datas, (g .held, (g .links, (g .pairs, (g .monitors, (g .timers, tt)))))))) in
+    let buses : Every (drop 21 groups) k s = (g .buses, (g .rows, (g .values, (g .issues, (g .issued, (g .crowds, tt)))))) in
+    let rest : Every (drop 13 groups) k s = (g .arrived, (g .filters, (g .datas, (g .held, (g .links, (g .pairs, (g .monitors, (g .timers, buses)))))))) in
     let late : Every (drop 10 groups) k s = (g .once, (g .mails, (g .arrivals, rest))) in
     (g .caps, (g .head, (g .spare, (g .mailBits, (g .dataBits, (g .actors, (g .unusedWords, (g .waits, (g .runs, (g .queue, late))))))))))
 
@@ -52,6 +53,12 @@ of-every k s r z h = record {
   pairs = h Part.pairs;
   monitors = h Part.monitors;
   timers = h Part.timers;
+  buses = h Part.buses;
+  rows = h Part.rows;
+  values = h Part.values;
+  issues = h Part.issues;
+  issued = h Part.issued;
+  crowds = h Part.crowds;
 }
 
 -- ---- what the rules say is what the record says
@@ -59,9 +66,10 @@ pub good-of : (k : Caps) (s : State) → Past s → Holds (soundAt k s) → Good
 unfolding soundAt sizeRule plainRules acrossRules
 good-of k s p h =
     let ((range, (words, bytes)), (plain, late)) = h in
-    let ((caps, (head, spare)), ((mailBits, dataBits), ((slots, boxes), ((datas, links), (monitors, timers))))) = plain in
-    let ((once, arrived), (held, (pairs, filters))) = late in
-    let rest : Every (drop 13 groups) k s = (arrived, (filters, (datas, (held, (links, (pairs, (monitors, (timers, tt)))))))) in
+    let ((caps, (head, spare)), ((mailBits, dataBits), ((slots, boxes), ((datas, links), ((monitors, timers), ((buses, rows), (values, issues))))))) = plain in
+    let ((once, arrived), ((issued, crowds), (held, (pairs, filters)))) = late in
+    let air : Every (drop 21 groups) k s = (buses, (rows, (values, (issues, (issued, (crowds, tt)))))) in
+    let rest : Every (drop 13 groups) k s = (arrived, (filters, (datas, (held, (links, (pairs, (monitors, (timers, air)))))))) in
     let messages : Every (drop 11 groups) k s = (λ e l. boxes e l .0, (λ e l. boxes e l .1, rest)) in
     let runs : Every (drop 8 groups) k s = (λ a l. slots a l .1 .1 .0, (λ a l. slots a l .1 .1 .1, (once, messages))) in
     let actors : Every (drop 5 groups) k s = (λ a l. slots a l .0 .0, (λ a l. slots a l .0 .1, (λ a l. slots a l .1 .0, runs))) in
@@ -80,10 +88,10 @@ of-good k s g = (
         (g .mailBits, g .dataBits),
         (
           (λ a l. ((g .actors a l, g .unusedWords a l), (g .waits a l, (g .runs a l, g .queue a l))), λ e l. (g .mails e l, g .arrivals e l)),
-          ((g .datas, g .links), (g .monitors, g .timers)),
+          ((g .datas, g .links), ((g .monitors, g .timers), ((g .buses, g .rows), (g .values, g .issues)))),
         ),
       ),
     ),
-    ((g .once, g .arrived), (g .held, (g .pairs, g .filters))),
+    ((g .once, g .arrived), ((g .issued, g .crowds), (g .held, (g .pairs, g .filters)))),
   ),
 )

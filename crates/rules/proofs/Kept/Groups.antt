@@ -8,13 +8,16 @@ use Rattle.pools.proofs.BoolLaws.{split}
 use Rattle.tables.specs.declared.Caps.{Caps}
 use Rattle.tables.specs.Columns.{ACTORS, AGE, ARRIVAL, ARRIVED, CLOCK, DATA-FREE, DATAS, DEADLINE, DUE, HAND, INTERVAL, LENGTH, LINK-ONE, LINK-TWO, LINKS}
 use Rattle.tables.specs.Columns.{MAIL-DATA, MAIL-FREE, MAIL-OWNER, MAILS, MONITOR-AGE, MONITORS, PAYLOAD, PRIORITY, QUEUE, QUEUED, REASON, RUNNING, SENDER}
+use Rattle.tables.specs.Columns.{BUS-AGE, BUS-READS, BUS-SEATS, BUS-SIZE, BUSES, ISSUE, ISSUED, PUBLISHED, READERS, SEAT, VALUE-BUS}
 use Rattle.tables.specs.Columns.{SPARE, STATE, TIMER-AGE, TIMER-OWNER, TIMERS, WANT-CLASS, WANT-SENDER, WANT-TAG, WATCHED, WATCHER}
+use Rattle.tables.specs.Limits.{MOST-BUSES}
 use Rattle.tables.specs.Sizes.{COLUMN-BITS, SPARES}
 use Rattle.tables.specs.State.{State}
 use Rattle.rules.specs.Rule.{Rule, is, each, Holds}
 use Rattle.rules.specs.Terms.{alive}
 use Rattle.rules.specs.Sound.{OWNERS, actorRule, arrivalRule, arrivedRule, bitsRule, capsRule, dataRule, filterRule, headRule, heldRule, unusedRule}
 use Rattle.rules.specs.Sound.{linkRule, mailRule, monitorRule, onceRule, pairRule, queueRule, runRule, spareRule, timerRule, waitRule}
+use Rattle.rules.specs.Sound.{busRule, crowdRule, issueRule, issuedRule, rowRule, valueRule}
 use Rattle.rules.proofs.Frames.Wrote.{mem}
 
 -- who is alive, as if it were a column: a group that reads the states for that alone is left alone by an action that keeps the living
@@ -129,11 +132,29 @@ monitors = pairs + 1
 abbrev pub timers : ℕ
 timers = monitors + 1
 
+abbrev pub buses : ℕ
+buses = timers + 1
+
+abbrev pub rows : ℕ
+rows = buses + 1
+
+abbrev pub values : ℕ
+values = rows + 1
+
+abbrev pub issues : ℕ
+issues = values + 1
+
+abbrev pub issued : ℕ
+issued = issues + 1
+
+abbrev pub crowds : ℕ
+crowds = issued + 1
+
 -- all of them
 abbrev pub groups : List Group
 groups =
     plain (ACTORS ∷ MAILS ∷ DATAS ∷ LINKS ∷ MONITORS ∷ TIMERS ∷ []) (λ k s. capsRule k s) (λ k s. refl)
-    ∷ plain (CLOCK ∷ RUNNING ∷ QUEUED ∷ ARRIVED ∷ []) (λ k s. headRule k s) (λ k s. refl)
+    ∷ plain (CLOCK ∷ RUNNING ∷ QUEUED ∷ ARRIVED ∷ ISSUED ∷ BUSES ∷ []) (λ k s. headRule k s) (λ k s. refl)
     ∷ plain (SPARE ∷ []) (λ k s. each SPARES (λ i. spareRule s i)) (λ k s. refl)
     ∷ plain (MAIL-FREE ∷ []) (λ k s. each COLUMN-BITS (λ e. bitsRule (k .mails) (s MAIL-FREE) e)) (λ k s. refl)
     ∷ plain (DATA-FREE ∷ []) (λ k s. each COLUMN-BITS (λ d. bitsRule (k .datas) (s DATA-FREE) d)) (λ k s. refl)
@@ -148,12 +169,18 @@ groups =
     ∷ plain (ARRIVED ∷ ARRIVAL ∷ MAIL-FREE ∷ []) (λ k s. each (k .mails) (λ e. arrivedRule s e)) (λ k s. refl)
     ∷ plain (MAIL-FREE ∷ MAIL-OWNER ∷ MAIL-DATA ∷ STATE ∷ WANT-SENDER ∷ WANT-CLASS ∷ WANT-TAG ∷ SENDER ∷ PAYLOAD ∷ [])
     (λ k s. each (k .mails) (λ e. filterRule s e)) (λ k s. refl)
-    ∷ plain (DATA-FREE ∷ SENDER ∷ LENGTH ∷ PAYLOAD ∷ AGE ∷ []) (λ k s. each (k .datas) (λ d. dataRule s d)) (λ k s. refl)
+    ∷ plain (DATA-FREE ∷ SENDER ∷ LENGTH ∷ PAYLOAD ∷ AGE ∷ VALUE-BUS ∷ []) (λ k s. each (k .datas) (λ d. dataRule s d)) (λ k s. refl)
     ∷ plain (DATA-FREE ∷ OWNERS) (λ k s. each (k .datas) (λ d. heldRule s d)) (λ k s. refl)
     ∷ living (LINK-ONE ∷ LINK-TWO ∷ []) (λ k s. each (k .links) (λ e. linkRule s e)) (λ k states s v. rw v)
     ∷ plain (LINK-ONE ∷ LINK-TWO ∷ []) (λ k s. each (k .links) (λ e. pairRule s e)) pairs-only
     ∷ living (WATCHER ∷ WATCHED ∷ MONITOR-AGE ∷ []) (λ k s. each (k .monitors) (λ i. monitorRule s i)) (λ k states s v. rw v)
     ∷ living (TIMER-OWNER ∷ TIMER-AGE ∷ DUE ∷ INTERVAL ∷ []) (λ k s. each (k .timers) (λ i. timerRule s i)) (λ k states s v. rw v)
+    ∷ plain (BUSES ∷ BUS-SIZE ∷ BUS-SEATS ∷ BUS-READS ∷ BUS-AGE ∷ []) (λ k s. each MOST-BUSES (λ b. busRule s b)) (λ k s. refl)
+    ∷ living (BUS-SEATS ∷ SEAT ∷ []) (λ k s. each MOST-BUSES (λ b. rowRule s b)) (λ k states s v. rw v)
+    ∷ plain (VALUE-BUS ∷ READERS ∷ PUBLISHED ∷ BUSES ∷ CLOCK ∷ SEAT ∷ []) (λ k s. each (k .datas) (λ d. valueRule s d)) (λ k s. refl)
+    ∷ plain (ISSUED ∷ ISSUE ∷ []) (λ k s. each (k .datas) (λ i. issueRule k s i)) (λ k s. refl)
+    ∷ plain (ISSUE ∷ VALUE-BUS ∷ []) (λ k s. each (k .datas) (λ d. issuedRule s d)) (λ k s. refl)
+    ∷ plain (VALUE-BUS ∷ BUS-SIZE ∷ []) (λ k s. each MOST-BUSES (λ b. crowdRule s b)) (λ k s. refl)
     ∷ []
 
 -- ---- the n-th group

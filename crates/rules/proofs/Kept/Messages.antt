@@ -27,7 +27,7 @@ use Rattle.records.proofs.RecordLaws.{length-exit, length-tick}
 use Rattle.records.proofs.HeaderLaws.{class-packed, mark-packed, packed-fits, tag-packed}
 use Rattle.ledger.specs.Call.Op.{notify, receive}
 use Rattle.tables.specs.declared.Caps.{Caps}
-use Rattle.tables.specs.Columns.{AGE, ARRIVAL, ARRIVED, CLOCK, DATA-FREE, DEADLINE, HAND, LENGTH, MAIL-DATA, MAIL-FREE, MAIL-OWNER, PAYLOAD, QUEUE, QUEUED, REASON, RUNNING, SENDER, STATE, WANT-CLASS, WANT-SENDER, WANT-TAG}
+use Rattle.tables.specs.Columns.{AGE, ARRIVAL, ARRIVED, CLOCK, DATA-FREE, DEADLINE, HAND, LENGTH, MAIL-DATA, MAIL-FREE, MAIL-OWNER, PAYLOAD, QUEUE, QUEUED, REASON, RUNNING, SENDER, STATE, VALUE-BUS, WANT-CLASS, WANT-SENDER, WANT-TAG}
 use Rattle.tables.specs.Sizes.{COLUMN-BITS}
 use Rattle.tables.specs.Limits.{ACTOR-FACTOR, ANY-CLASS, ANY-SENDER, ANY-TAG, CLOCK-END, DEADLINE-END, ENTRY-BYTES, LONGEST-WAIT, MOST-DATAS, PAYLOAD-MOST}
 use Rattle.tables.specs.State.{Sized, State, at, head, poke, with-col}
@@ -51,7 +51,7 @@ use Rattle.rules.proofs.Lists.Columns.{alive-begins, alive-below, alive
 use Rattle.rules.proofs.Reckoned.Ledger.{alive-age, alive-slot, runner-alive, runs-alive, runs-at}
 use Rattle.rules.proofs.Kept.Running.{wake-keeps}
 use Rattle.rules.proofs.Lists.Messages.{DataAt, Wiped, Written, bits-free, bits-take, data-same, header-same, written}
-use Rattle.rules.proofs.Kept.Owners.{arrivals-long, arrivals-room, column-arrived, occurs-column, occurs-set, owner-below, owner-else, owner-free, owner-fresh, owner-pass, owner-take, owned}
+use Rattle.rules.proofs.Kept.Owners.{arrivals-long, arrivals-room, column-arrived, free-no-value, occurs-column, occurs-set, owner-below, owner-else, owner-free, owner-fresh, owner-pass, owner-take, owned}
 use Rattle.rules.proofs.Guards.{second-passed, third-passed, fourth-passed}
 
 -- ---- a data entry is freed
@@ -93,7 +93,7 @@ module _ (k : Caps) (s : State) (d : ℕ) (q : List ℕ) (w : Wiped (s PAYLOAD) 
   unfilled-datas few h e m =
       let b : d / WORD-BITS < length (s DATA-FREE) = omega (arith, z .words DATA-FREE (lit< tt)) in
       let f = released-same (s DATA-FREE) d b in
-      each-set (DataAt (released (s DATA-FREE) d) (set (s SENDER) d 0) (set (s LENGTH) d 0) q (s AGE)) d e (
+      each-set (DataAt (released (s DATA-FREE) d) (set (s SENDER) d 0) (set (s LENGTH) d 0) (s VALUE-BUS) q (s AGE)) d e (
         λ u. (
           (
             getD-set-same (s SENDER) d 0 0 (omega (arith, z .words SENDER (lit< tt))),
@@ -105,8 +105,8 @@ module _ (k : Caps) (s : State) (d : ℕ) (q : List ℕ) (w : Wiped (s PAYLOAD) 
         λ u. true-false (free (released (s DATA-FREE) d) d) f
             (not-true (free (released (s DATA-FREE) d) d) u),
       )
-      (λ r. data-same (s DATA-FREE) (released (s DATA-FREE) d) (s SENDER) (set (s SENDER) d 0) (s LENGTH) (set (s LENGTH) d 0) (s PAYLOAD) q (s AGE) e
-      (released-other (s DATA-FREE) d e (eqb-false e d r)) (other (s SENDER) d 0 e r) (other (s LENGTH) d 0 e r) (w .apart e r) (h e m))
+      (λ r. data-same (s DATA-FREE) (released (s DATA-FREE) d) (s SENDER) (set (s SENDER) d 0) (s LENGTH) (set (s LENGTH) d 0) (s VALUE-BUS) (s VALUE-BUS) (s PAYLOAD) q (s AGE) e
+      (released-other (s DATA-FREE) d e (eqb-false e d r)) (other (s SENDER) d 0 e r) (other (s LENGTH) d 0 e r) refl (w .apart e r) (h e m))
 
 -- ---- the hand lets go
 module _ (k : Caps) (s : State) (g : Good k s) (a : ℕ) (l : a < k .actors) (d : ℕ) (h : at s HAND a ≡ suc d) (q : List ℕ) (w : Wiped (s PAYLOAD) q d) where
@@ -180,7 +180,7 @@ module _ (k : Caps) (s : State) (g : Good k s) (a : ℕ) (there : alive (s STATE
         let owner-is = read-down g MAIL-OWNER e a tt under in
         let sender-is = read-back g SENDER d sender tt below in
         patch k g (wrote-enlist (wrote-filled (wrote-none s) d sender (length payload) q (w .long)) e a d) (
-        Part.head by (rw one-more (g .head .0, (queue-fits g, omega (arith, room)))) also
+        Part.head by (rw one-more (g .head .0, ((queue-fits g, omega (arith, room)), g .head .1 .1))) also
         Part.mailBits by (bits-take (k .mails) (s MAIL-FREE) e under (g .mailBits)) also
         Part.dataBits by (bits-take (k .datas) (s DATA-FREE) d below (g .dataBits)) also
         Part.mails by (λ f m. each-set (λ f. Holds (mailRule k (enlist (filled s d sender (length payload) q) e a d) f)) e f
@@ -197,11 +197,11 @@ module _ (k : Caps) (s : State) (g : Good k s) (a : ℕ) (there : alive (s STATE
         (λ u. let c = owner-fresh (owned k s g) MAIL-DATA f refl (g .mails f m .1 (u .0) .1 .0) d df in
         rw (other (s SENDER) d sender (at s MAIL-DATA f - 1) c, header-same (s PAYLOAD) q (at s MAIL-DATA f - 1) (w .apart (at s MAIL-DATA f - 1) c)) (g .filters f m u)))
         m) also
-        Part.datas by (λ f m. each-set (DataAt (taken (s DATA-FREE) d) (set (s SENDER) d sender) (set (s LENGTH) d (length payload)) q (s AGE)) d f
-        (rw (taken-same (s DATA-FREE) d (free-inside (s DATA-FREE) d df), sender-is, read-back g LENGTH d (length payload) tt below, w .header)
-        (λ u. true-false false u refl, λ u. ((fine .headed, fine .lengthy), (fine .sent, w .past))))
-        (λ r. data-same (s DATA-FREE) (taken (s DATA-FREE) d) (s SENDER) (set (s SENDER) d sender) (s LENGTH) (set (s LENGTH) d (length payload)) (s PAYLOAD) q (s AGE) f
-        (taken-other (s DATA-FREE) d f (eqb-false f d r)) (other (s SENDER) d sender f r) (other (s LENGTH) d (length payload) f r) (w .apart f r) (g .datas f m))) also
+        Part.datas by (λ f m. each-set (DataAt (taken (s DATA-FREE) d) (set (s SENDER) d sender) (set (s LENGTH) d (length payload)) (s VALUE-BUS) q (s AGE)) d f
+        (rw (taken-same (s DATA-FREE) d (free-inside (s DATA-FREE) d df), sender-is, read-back g LENGTH d (length payload) tt below, w .header, free-no-value k s g d below df)
+        (λ u. true-false false u refl, λ u. (λ z. ((fine .headed, fine .lengthy), (fine .sent, w .past)), λ z. absurd (z refl))))
+        (λ r. data-same (s DATA-FREE) (taken (s DATA-FREE) d) (s SENDER) (set (s SENDER) d sender) (s LENGTH) (set (s LENGTH) d (length payload)) (s VALUE-BUS) (s VALUE-BUS) (s PAYLOAD) q (s AGE) f
+        (taken-other (s DATA-FREE) d f (eqb-false f d r)) (other (s SENDER) d sender f r) (other (s LENGTH) d (length payload) f r) refl (w .apart f r) (g .datas f m))) also
         Part.held by (owner-take (owned k s g) MAIL-DATA e refl (omega (arith, g .sized .words MAIL-DATA (lit< tt))) (g .mails e under .0 mf .1) d df) also
         done) refl
 
@@ -330,7 +330,7 @@ module _ (k : Caps) (s : State) (g : Good k s) (j : ℕ) (jl : j < at s ARRIVED 
   -- the head is sound
   pub delist-head : Holds (headRule k (delist s j))
   unfolding delist pull poke with-col freeBit
-  delist-head = rw one-less (g .head .0, (queue-fits g, omega (arith, arrivals-fit g)))
+  delist-head = rw one-less (g .head .0, ((queue-fits g, omega (arith, arrivals-fit g)), g .head .1 .1))
 
   -- so are the bits
   pub delist-bits : (e : ℕ) → e < COLUMN-BITS → Holds (bitsRule (k .mails) (delist s j MAIL-FREE) e)

@@ -10,7 +10,7 @@ use mir.Val.{boolByte}
 use lib.ListN.{length, getD, set, length-append, length-map, List·getD-eq-default}
 use lib.Seq.{length-take-le, take-length}
 use lib.Dec.{eqb, ltb, lit<}
-use borrow.Author.Tests.{eqb-true, eqb-false, eq-eqb, ne-eqb, ltb-false, ltb-true, not-true}
+use borrow.Author.Tests.{eqb-true, eqb-false, eq-eqb, le-ltb, lt-ltb, ne-eqb, ltb-false, ltb-true, not-true}
 use Rattle.ledger.specs.Lists.{total}
 use Rattle.pools.specs.Pool.{Exact, occurs}
 use Rattle.pools.specs.Bits.{WORD-BITS, free, released, taken}
@@ -22,17 +22,17 @@ use Rattle.pools.proofs.ListLaws.{occurs-append, occurs-count, occurs-place}
 use Rattle.pools.proofs.ExactLaws.{exact-keep, exact-length, exact-same, exact-used}
 use Rattle.pools.proofs.FreeLaws.{free-inside, released-other, released-same, taken-other, taken-same}
 use Rattle.tables.specs.declared.Caps.{Caps}
-use Rattle.tables.specs.Columns.{ARRIVAL, ARRIVED, DATA-FREE, HAND, MAIL-DATA, MAIL-FREE, REST}
-use Rattle.tables.specs.State.{State, at, poke, size}
+use Rattle.tables.specs.Columns.{ARRIVAL, ARRIVED, DATA-FREE, HAND, ISSUE, ISSUED, MAIL-DATA, MAIL-FREE, REST, VALUE-BUS}
+use Rattle.tables.specs.State.{State, at, head, poke, size}
 use Rattle.tables.proofs.ActionLaws.{poke-other, poke-same}
 use Rattle.rules.specs.Rule.{Holds}
 use Rattle.rules.specs.Sound.{OWNERS, held, plainRules, soundAt}
-use Rattle.rules.specs.Agrees.{arrivals, named, owners, usedData, usedMail}
+use Rattle.rules.specs.Agrees.{arrivals, named, owners, upTo, usedData, usedMail}
 use Rattle.rules.proofs.Lists.Columns.{alive-below, alive-of, each-set, listed-exact, listed-room, other}
 use Rattle.rules.proofs.Frames.Wrote.{All, mem, wrote-none, wrote-poke}
 use Rattle.rules.proofs.Kept.Good.{of-good}
 use Rattle.rules.specs.Good.{Good}
-use Rattle.rules.proofs.Kept.Clauses.{arrivals-fit}
+use Rattle.rules.proofs.Kept.Clauses.{arrivals-fit, issue-some}
 
 -- ---- how often a number stands
 -- how often a number stands in a column once a word is written
@@ -69,6 +69,26 @@ occurs-column d col es x =
 -- an entry in use holds a number
 pub owner-some : (col es : List ℕ) → Exact es (λ e. not (unused col e)) → (e : ℕ) → 0 < occurs e es → 1 ≤ getD col e 0
 owner-some col es x e o = let n = eqb-false (getD col e 0) 0 (not-true (unused col e) (exact-used (λ e. not (unused col e)) es e x o)) in omega arith
+
+-- ---- the first numbers
+-- each is there once
+pub upTo-exact : (n : ℕ) → Exact (upTo n) (λ i. ltb i n)
+unfolding upTo occurs
+upTo-exact zero i = rw (le-ltb i 0 (omega arith))
+upTo-exact (suc n) i =
+    occurs-append i (upTo n) (n ∷ [])
+    ∙ rw (upTo-exact n i)
+    (split (eqb n i)
+    (λ q. let e = eqb-true n i q in rw (q, le-ltb i n (omega arith), lt-ltb i (suc n) (omega arith)))
+    (λ q. let e = eqb-false n i q in rw q (split (ltb i n)
+    (λ p. let h = ltb-true i n p in rw (p, lt-ltb i (suc n) (omega arith)))
+    (λ p. let h = ltb-false i n p in rw (p, le-ltb i (suc n) (omega (arith, e)))))))
+
+-- there are n
+pub upTo-length : (n : ℕ) → length (upTo n) ≡ n
+unfolding upTo
+upTo-length zero = refl
+upTo-length (suc n) = length-append (upTo n) (n ∷ []) ∙ omega (arith, upTo-length n)
 
 -- ---- lists of owners
 -- c is one of the columns, and stands there once
@@ -154,7 +174,10 @@ pub owners-name : (k : Caps) (s : State) → ((c : ℕ) → c < REST → length 
 unfolding plainRules
 owners-name k s long h = (
   λ e l. let r = h .1 .1 .0 .1 e (omega (arith, long MAIL-DATA (lit< tt))) .0 in split (free (s MAIL-FREE) e) (λ q. omega (arith, r .0 q .1)) (λ q. r .1 (rw q) .1 .1),
-  (λ a l. h .1 .1 .0 .0 a (omega (arith, long HAND (lit< tt))) .0 .0 .1 .1, tt),
+  (
+    λ a l. h .1 .1 .0 .0 a (omega (arith, long HAND (lit< tt))) .0 .0 .1 .1,
+    (λ i l. let r = h .1 .1 .1 .1 .1 .1 .1 i (omega (arith, long ISSUE (lit< tt))) in split (ltb i (head s ISSUED)) (λ q. r .0 (ltb-true _ _ q) .1) (λ q. omega (arith, r .1 (ltb-false _ _ q))), tt),
+  ),
 )
 
 -- in a sound state all this is so
@@ -264,6 +287,38 @@ module _ (k : Caps) (s : State) (g : Good k s) where
   pub datas-arrived : Exact (arrivals s) (λ e. not (unused (s MAIL-DATA) e))
   datas-arrived = column-arrived (s MAIL-DATA) (g .sized .words MAIL-DATA (lit< tt)) (λ e l q. g .mails e l .0 q .1) (λ e l q. g .mails e l .1 q .1 .0)
 
+  -- the words of the row of values that count are an owner's entries in use
+  pub values-exact : Exact (upTo (at s ISSUED 0)) (λ i. not (unused (s ISSUE) i))
+  values-exact i =
+      upTo-exact (at s ISSUED 0) i
+      ∙ split (ltb i (at s ISSUED 0))
+      (λ q. rw (q, ne-eqb (at s ISSUE i) 0 (λ z. omega (arith, issue-some g i (ltb-true i (at s ISSUED 0) q)))))
+      (λ q. rw (q, unissued i (ltb-false i (at s ISSUED 0) q)))
+    where
+      -- past the count a word is 0
+      unissued : (i : ℕ) → at s ISSUED 0 ≤ i → at s ISSUE i ≡ 0
+      unissued i h =
+          split (ltb i (k .datas)) (λ q. g .issues i (ltb-true _ _ q) .1 h)
+          (λ q. List·getD-eq-default (s ISSUE) 0 {n = i} (omega (arith, ltb-false i (k .datas) q, g .sized .words ISSUE (lit< tt))))
+
   -- THE LAW: the data entries in use are those that the owners name, each once; every owner has its entries in use
   pub all-datas : (palms : List ℕ) → Exact palms (λ a. not (unused (s HAND) a)) → Exact (named s (owners s palms)) (usedData k s)
-  all-datas palms x = datas-exact (owned k s g) (owners s palms) refl (datas-arrived, (x, tt))
+  all-datas palms x = datas-exact (owned k s g) (owners s palms) refl (datas-arrived, (x, (values-exact, tt)))
+
+  -- a value is in the row
+  pub value-issued : (d : ℕ) → d < k .datas → (at s VALUE-BUS d ≡ 0 → ⊥) → (i : ℕ) × (at s ISSUE i ≡ suc d)
+  value-issued d l n = let p = occurs-place (suc d) (s ISSUE) (rw (g .issued d l, ne-eqb (at s VALUE-BUS d) 0 n) (omega arith)) in (p .0, p .2)
+
+  -- THE LAW: what the mailboxes and the hands name is no value, but a message
+  pub message-no-value : (c e d : ℕ) → sole c OWNERS ≡ true → eqb ISSUE c ≡ false → at s c e ≡ suc d → at s VALUE-BUS d ≡ 0
+  message-no-value c e d o n h =
+      split (eqb (at s VALUE-BUS d) 0) (λ q. eqb-true _ _ q)
+      (λ q. let (i, r) = value-issued d (owner-below (owned k s g) c e o d h) (eqb-false _ _ q) in
+      absurd (eqb-false (at s ISSUE i - 1) d (owner-else (owned k s g) c e o d h ISSUE i refl (omega (arith, r)) (rw n)) (omega (arith, r))))
+
+  -- THE LAW: a data entry that is free is none
+  pub free-no-value : (d : ℕ) → d < k .datas → free (s DATA-FREE) d ≡ true → at s VALUE-BUS d ≡ 0
+  free-no-value d l f =
+      split (eqb (at s VALUE-BUS d) 0) (λ q. eqb-true _ _ q)
+      (λ q. let (i, r) = value-issued d l (eqb-false _ _ q) in
+      true-false (free (s DATA-FREE) d) f (owner-used (owned k s g) ISSUE i refl d r))

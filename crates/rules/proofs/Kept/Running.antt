@@ -31,8 +31,8 @@ use Rattle.rules.proofs.Frames.Wrote.{wrote-none, wrote-poke}
 use Rattle.rules.proofs.Frames.Actions.{wrote-ready, wrote-run, wrote-unwait}
 use Rattle.rules.specs.Good.{Good}
 use Rattle.rules.proofs.Guards.{first-passed, second-passed}
-use Rattle.rules.proofs.Kept.Clauses.{arrivals-fit, clock-fits, hand-fits, link-ends, links-live-on, mail-owner-lives, mails-live-on, monitor-ends}
-use Rattle.rules.proofs.Kept.Clauses.{monitors-live-on, queue-fits, read-back, runner-fits, timer-owner-lives, timers-live-on, wait-unused}
+use Rattle.rules.proofs.Kept.Clauses.{arrivals-fit, buses-fit, clock-fits, hand-fits, link-ends, links-live-on, mail-owner-lives, mails-live-on, monitor-ends}
+use Rattle.rules.proofs.Kept.Clauses.{monitors-live-on, queue-fits, read-back, rows-live-on, runner-fits, seat-lives, timer-owner-lives, timers-live-on, values-fit, wait-unused}
 use Rattle.rules.proofs.Kept.Groups as Part
 use Rattle.rules.proofs.Kept.Patch.{_by_also_, done, patch, patch-living}
 use Rattle.rules.proofs.Lists.Columns.{Listed, Once, alive-grows, alive-same, each-set, listed-at, listed-joins, listed-leaves, listed-room, once-joins, once-leaves, other, set-zero}
@@ -88,7 +88,7 @@ wake-keeps k s a reason g l u r =
     let w : alive (set (s STATE) a RUNNABLE) ≡ alive (s STATE) = alive-same (s STATE) a RUNNABLE (λ e. omega (arith, u)) (λ e. omega arith) in
     let is = read-back g STATE a RUNNABLE tt l in
     patch-living k g (wrote-ready (wrote-unwait (wrote-none s) a) a reason) (
-    Part.head by (rw (one-more k s g) ((clock-fits g, runner-fits g), (omega arith, arrivals-fit g))) also
+    Part.head by (rw (one-more k s g) ((clock-fits g, runner-fits g), ((omega arith, arrivals-fit g), (values-fit g, buses-fit g)))) also
     Part.actors by (turned k s g a RUNNABLE reason l (λ z. omega (arith, u)) (omega arith) r) also
     Part.unusedWords by (λ b h. each-set (λ b. Holds (unusedRule (wake s a reason) b)) a b
     (rw (is, set-zero (s WANT-SENDER) a, set-zero (s WANT-CLASS) a, set-zero (s WANT-TAG) a, set-zero (s DEADLINE) a)
@@ -131,7 +131,7 @@ born-keeps k s a priority g l u o r =
     let later = sender-later (s AGE) a (omega (arith, col k s g AGE tt)) in
     let is = read-back g STATE a RUNNABLE tt l in
     patch k g (wrote-ready (wrote-poke (wrote-poke (wrote-none s) AGE a _) PRIORITY a priority) a 0) (
-    Part.head by (rw (one-more k s g) ((clock-fits g, runner-fits g), (omega arith, arrivals-fit g))) also
+    Part.head by (rw (one-more k s g) ((clock-fits g, runner-fits g), ((omega arith, arrivals-fit g), (values-fit g, buses-fit g)))) also
     Part.actors by (λ b h. each-set (λ b. Holds (actorRule k t b)) a b
     (rw (is, set-zero (s REASON) a, read-back g AGE a (at s AGE a + 1) tt l, read-back g PRIORITY a priority tt l)
     ((omega arith, (r, omega arith)), ((omega arith, λ e. absurd (omega arith)), hand-fits g a)))
@@ -146,10 +146,12 @@ born-keeps k s a priority g l u o r =
     Part.once by (rw (one-more k s g) (once-up k s g a l (rw u))) also
     Part.mails by (mails-live-on g st (λ e h p. grows _ (mail-owner-lives g e h p))) also
     Part.filters by (filters-still k s g a RUNNABLE l (λ e. omega arith)) also
-    Part.datas by (λ d h. let (unused, used) = g .datas d h in (unused, λ p. let (front, (sender, tail)) = used p in (front, (later _ _ sender, tail)))) also
+    Part.datas by (λ d h. let (unused, used) = g .datas d h in
+    (unused, λ p. let (message, value) = used p in (λ z. let (front, (sender, tail)) = message z in (front, (later _ _ sender, tail)), value))) also
     Part.links by (links-live-on g st (λ e h p. let ends = link-ends g e h p in (grows _ (ends .oneLives), grows _ (ends .twoLives)))) also
     Part.monitors by (monitors-live-on g st (λ i h p. let ends = monitor-ends g i h p in (grows _ (ends .oneLives), grows _ (ends .twoLives)))) also
     Part.timers by (timers-live-on g st (λ i h p. grows _ (timer-owner-lives g i h p))) also
+    Part.rows by (rows-live-on g st (λ b n h m p. grows _ (seat-lives g b n h m p))) also
     done) refl
 
 -- "Spawn takes a priority and puts the actor at the tail of its level": sound as before
@@ -170,7 +172,7 @@ rest-keeps k s a g l c u =
     let is = read-back g STATE a RUNNABLE tt l in
     let none : getD (set (s RUNNING) 0 0) 0 0 ≡ 0 = set-zero (s RUNNING) 0 in
     patch-living k g (wrote-ready (wrote-poke (wrote-none s) RUNNING 0 0) a 0) (
-    Part.head by (rw (one-more k s g, none) ((clock-fits g, omega arith), (omega arith, arrivals-fit g))) also
+    Part.head by (rw (one-more k s g, none) ((clock-fits g, omega arith), ((omega arith, arrivals-fit g), (values-fit g, buses-fit g)))) also
     Part.actors by (turned k s g a RUNNABLE 0 l (λ z. omega (arith, u)) (omega arith) (omega arith)) also
     Part.unusedWords by (λ b h. each-set (λ b. Holds (unusedRule t b)) a b
     (rw is (λ e. absurd (omega arith), (λ e. absurd (e refl), λ e. wait-unused g a l (λ z. omega (arith, u)))))
@@ -209,7 +211,7 @@ run-keeps k s a j g e h c =
     let one = read-back g RUNNING 0 (suc a) tt (omega arith) in
     let less = read-back g QUEUED 0 (head s QUEUED - 1) tt (omega arith) in
     patch-living k g (wrote-run (wrote-none s) a j h (omega (arith, queue-fits g, col k s g QUEUE tt))) (
-    Part.head by (rw (less, one) ((clock-fits g, l), (omega (arith, queue-fits g), arrivals-fit g))) also
+    Part.head by (rw (less, one) ((clock-fits g, l), ((omega (arith, queue-fits g), arrivals-fit g), (values-fit g, buses-fit g)))) also
     Part.actors by (turned k s g a RUNS 0 l (λ z. omega (arith, u)) (omega arith) (omega arith)) also
     Part.unusedWords by (λ b n. each-set (λ b. Holds (unusedRule t b)) a b
     (rw (is, set-zero (s REASON) a) (λ e. absurd (omega arith), (λ e. refl, λ e. wait-unused g a l (λ z. omega (arith, u)))))

@@ -16,13 +16,14 @@ use Rattle.pools.specs.Bits.{bit, free, WORD-BITS}
 use Rattle.pools.proofs.BoolLaws.{split, true-false, and-left, and-right}
 use Rattle.tables.specs.declared.Caps.{Caps}
 use Rattle.tables.specs.Columns.{ACTORS, DATA-FREE, DATAS, LINKS, MAIL-FREE, MAILS, MONITORS, PAST, PAYLOAD, REST, TIMERS}
-use Rattle.tables.specs.Sizes.{BIT-WORDS, COLUMN-BITS, SPARES}
+use Rattle.tables.specs.Sizes.{ALL-SEATS, BIT-WORDS, COLUMN-BITS, SPARES}
 use Rattle.tables.specs.Limits.{ENTRY-BYTES}
 use Rattle.tables.specs.State.{InRange, Room, Sized, State, capsOf, head, needed, neededP, poke, size, sizes, view, with-col}
 use Rattle.rules.specs.Rule.{Holds, test}
 use Rattle.rules.specs.Sound.{pairRule, rangeRule, soundRule, viewOf, zeros}
 use Rattle.rules.specs.Terms.{alive}
-use Rattle.rules.specs.Agrees.{Agrees, sizesOf}
+use Rattle.rules.specs.Agrees.{Agrees, sizesOf, upTo}
+use Rattle.rules.specs.Buses.{seatAt}
 use Rattle.rules.proofs.Frames.Wrote.{wrote-none, wrote-poke, wrote-sized}
 use Rattle.rules.specs.Good.{Good}
 use Rattle.rules.proofs.Kept.Host.{join-sound}
@@ -131,7 +132,7 @@ module _ (k : Caps) (s : State) (r : InRange k) where
     range = r;
     sized = fresh-sized;
     caps = ((refl, (refl, refl)), (refl, (refl, refl)));
-    head = ((omega arith, omega arith), (omega arith, omega arith));
+    head = ((omega arith, omega arith), ((omega arith, omega arith), (omega arith, omega arith)));
     spare = λ i l. zero-at SPARES i;
     mailBits = λ e l m. rw (four-free (k .mails) e (r .fewMails), le-ltb e (k .mails) m);
     dataBits = λ e l m. rw (four-free (k .datas) e (r .fewDatas), le-ltb e (k .datas) m);
@@ -154,11 +155,17 @@ module _ (k : Caps) (s : State) (r : InRange k) where
     pairs = λ e l h. absurd (h (zero-at (k .links) e));
     monitors = λ i l. simp zero-at ((omega arith, λ h. absurd (h refl)), (λ h. refl, λ h. absurd (h refl)));
     timers = λ i l. simp zero-at ((omega arith, λ h. absurd (h refl)), (λ h. (refl, refl), λ h. absurd (h refl)));
+    buses = λ b l. (λ h. absurd (omega arith), λ h. simp zero-at ((refl, refl), (refl, refl)));
+    rows = λ b l n m h. absurd (h (zero-at ALL-SEATS (seatAt b n)));
+    values = λ d l. (λ h. (zero-at (k .datas) d, zero-at (k .datas) d), λ h. absurd (h (zero-at (k .datas) d)));
+    issues = λ i l. (λ h. absurd (omega arith), λ h. zero-at (k .datas) i);
+    issued = λ d l. rw (zero-occurs (k .datas) d, zero-at (k .datas) d);
+    crowds = λ b l. rw (zero-occurs (k .datas) b) (omega arith);
   }
 
   -- THE THEOREM: a fresh start holds nothing
   pub fresh-agrees : Agrees k (nothing (sizesOf k)) f
-  unfolding fresh freed stated zeroed with-col poke alive occurs
+  unfolding fresh freed stated zeroed with-col poke alive occurs upTo
   fresh-agrees = record {
     sizes = refl;
     people = record {
@@ -183,6 +190,19 @@ module _ (k : Caps) (s : State) (r : InRange k) where
       links = refl;
     };
     monitors = record { slots = []; allSlots = (λ i. rw (zero-at (k .monitors) i)); are = refl; wornSlots = (λ i. rw (zero-at (k .monitors) i)) };
+    buses = record {
+      made = refl;
+      rank = λ d. 0;
+      values = refl;
+      seats = [];
+      allSeats = (λ i. rw (zero-at ALL-SEATS i));
+      cursor = λ i. 0;
+      readers = refl;
+      ascending = λ i j h l. absurd (omega arith);
+      before = λ d n. absurd (n (zero-at (k .datas) d));
+      came = λ i n. absurd (n (zero-at ALL-SEATS i));
+      unread = λ c n d l h e. absurd (omega (arith, e, zero-at (k .datas) d));
+    };
   }
 
 -- ---- in the buffers

@@ -70,20 +70,34 @@ module _ (n : ℕ) (bits : List ℕ) (e : ℕ) (l : e < n) (h : (d : ℕ) → d 
   pub bits-take : (d : ℕ) → d < COLUMN-BITS → Holds (bitsRule n (taken bits e) d)
   bits-take d m g = rw (taken-other bits e d (λ q. omega arith)) (h d m g)
 
--- ---- data entries, over their columns: free bits, senders, lengths, payload, and the actors' ages
-abbrev pub DataAt : List ℕ → List ℕ → List ℕ → List ℕ → List ℕ → ℕ → Type 0
-DataAt df sn ln p ages e =
+-- ---- data entries, over their columns: free bits, senders, lengths, buses of values, payload, and the actors' ages
+-- the bytes past the payload are 0
+abbrev pub TailAt : List ℕ → List ℕ → ℕ → Type 0
+TailAt ln p e = Holds (zeros p (ENTRY-BYTES * e + (HEADER-BYTES + getD ln e 0)) (PAYLOAD-MOST - getD ln e 0))
+
+-- one is all zero where it is free; else it holds a message, or a bus's value
+abbrev pub DataAt : List ℕ → List ℕ → List ℕ → List ℕ → List ℕ → List ℕ → ℕ → Type 0
+DataAt df sn ln vb p ages e =
     (free df e ≡ true → ((getD sn e 0 ≡ 0) × (getD ln e 0 ≡ 0)) × Holds (zeros p (ENTRY-BYTES * e) ENTRY-BYTES))
     × (not (free df e) ≡ true →
+    (getD vb e 0 ≡ 0 →
     (Holds (headerRule (headerAt p e)) × Holds (lengthRule (classOf (headerAt p e)) (getD ln e 0)))
-    × (Holds (senderRule ages (classOf (headerAt p e)) (getD sn e 0)) × Holds (zeros p (ENTRY-BYTES * e + (HEADER-BYTES + getD ln e 0)) (PAYLOAD-MOST - getD ln e 0))))
+    × (Holds (senderRule ages (classOf (headerAt p e)) (getD sn e 0)) × TailAt ln p e))
+    × ((getD vb e 0 ≡ 0 → ⊥) → ((headerAt p e ≡ 0) × (getD sn e 0 ≡ 0)) × ((getD ln e 0 ≤ PAYLOAD-MOST) × TailAt ln p e)))
 
 -- an entry of which nothing changed
-pub data-same : (df df′ sn sn′ ln ln′ p p′ ages : List ℕ) (e : ℕ) → free df′ e ≡ free df e → getD sn′ e 0 ≡ getD sn e 0 → getD ln′ e 0 ≡ getD ln e 0 →
-    bytesAt p′ e ≡ bytesAt p e → DataAt df sn ln p ages e → DataAt df′ sn′ ln′ p′ ages e
-data-same df df′ sn sn′ ln ln′ p p′ ages e f n m b h =
-    rw (f, n, m, header-same p p′ e b)
-    (λ u. let r = h .0 u in (r .0, blank-same p p′ e b (r .1)), λ u. let r = h .1 u in (r .0, (r .1 .0, zeros-same p p′ e b (4 + getD ln e 0) (PAYLOAD-MOST - getD ln e 0) (omega (arith, r .0 .1 .0)) (r .1 .1))))
+pub data-same : (df df′ sn sn′ ln ln′ vb vb′ p p′ ages : List ℕ) (e : ℕ) → free df′ e ≡ free df e → getD sn′ e 0 ≡ getD sn e 0 → getD ln′ e 0 ≡ getD ln e 0 →
+    getD vb′ e 0 ≡ getD vb e 0 → bytesAt p′ e ≡ bytesAt p e → DataAt df sn ln vb p ages e → DataAt df′ sn′ ln′ vb′ p′ ages e
+data-same df df′ sn sn′ ln ln′ vb vb′ p p′ ages e f n m v b h =
+    rw (f, n, m, v, header-same p p′ e b) (
+      λ u. let r = h .0 u in (r .0, blank-same p p′ e b (r .1)),
+      λ u. let (message, value) = h .1 u in
+          (λ z. let r = message z in (r .0, (r .1 .0, tail (r .0 .1 .0) (r .1 .1))), λ z. let r = value z in (r .0, (r .1 .0, tail (r .1 .0) (r .1 .1)))),
+    )
+  where
+    -- the bytes past its payload
+    tail : getD ln e 0 ≤ PAYLOAD-MOST → TailAt ln p e → TailAt ln p′ e
+    tail l z = zeros-same p p′ e b (4 + getD ln e 0) (PAYLOAD-MOST - getD ln e 0) (omega arith) z
 
 -- a payload area in which entry d is wiped, and nothing else changed
 pub record Wiped (p q : List ℕ) (d : ℕ) : Type 0 where

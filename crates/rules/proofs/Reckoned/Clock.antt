@@ -1,4 +1,4 @@
--- Advance: due timers fire, the overdue wake; soundness is kept and the reckoning says the same.
+-- Advance: due timers fire, the overdue wake, and what has reached its age ends; soundness is kept and the reckoning says the same.
 use Prim.Native.Nat.{ℕ, zero, suc, _+_, _-_, _≤_, _<_}
 use native.Mathlib.Omega.{arith}
 use mathlib.Core.Path.{_≡_, refl, sym, ap, _∙_}
@@ -20,12 +20,14 @@ use Rattle.tables.specs.State.{State, at, head, with-col, poke}
 use Rattle.rules.specs.Terms.{actorId, alive, timerId}
 use Rattle.rules.specs.Actions.{hasRoom, post}
 use Rattle.rules.specs.Agrees.{Agrees, timerAt}
-use Rattle.rules.specs.Calls.{entry, fire, fireAll, fireNext, fired, nextDue, rearm}
+use Rattle.rules.specs.Calls.{entry, fire, fireAll, fireNext, fired, nextDue, rearm, rouse}
 use Rattle.rules.proofs.Claims.{Agreed, Counted, Keeps, Tested}
 use Rattle.rules.proofs.Reckoned.Firing.{due-less, firings-due, firings-less}
 use Rattle.rules.specs.Good.{Good, Late, atClock}
 use Rattle.rules.proofs.Guards.{Passed, first-passed}
+use Rattle.rules.proofs.Kept.Buses.{aired-keeps}
 use Rattle.rules.proofs.Kept.Clauses.{timer-owner-lives}
+use Rattle.rules.proofs.Reckoned.Values.{aired-agrees}
 use Rattle.rules.proofs.Reckoned.Ledger.{room-none, room-some}
 use Rattle.rules.proofs.Kept.Messages.{post-keeps, tick-fine}
 use Rattle.rules.proofs.Reckoned.Messages.{post-agrees}
@@ -171,12 +173,18 @@ raised micros k s g p =
     let c = head s CLOCK in
     clock-keeps k s micros g (ltb-false CLOCK-END (c + micros) (neither (ltb LONGEST micros) (ltb CLOCK-END (c + micros)) (first-passed p) .1))
 
+-- once the due timers fired and the overdue woke the state is sound
+roused-good : (micros : ℕ) (k : Caps) (s : State) → Good k s → Passed (entry (advance micros) .tests k s) →
+    Good k (rouse k (k .actors) (fireAll k (k .timers) (fired 0 (poke s CLOCK 0 (head s CLOCK + micros))) .state))
+roused-good micros k s g p =
+    let c = head s CLOCK in
+    let u = poke s CLOCK 0 (c + micros) in
+    rouse-keeps k c (fireAll k (k .timers) (fired 0 u) .state) (fireAll-late k (ticks k) c (k .timers) 0 u (raised micros k s g p))
+
 -- THE THEOREM: advance keeps a sound state sound
 pub advance-keeps : (micros : ℕ) → Keeps (advance micros)
 advance-keeps micros k s g p =
-    let c = head s CLOCK in
-    let h = raised micros k s g p in
-    rouse-keeps k c (fireAll k (k .timers) (fired 0 (poke s CLOCK 0 (c + micros))) .state) (fireAll-late k (ticks k) c (k .timers) 0 (poke s CLOCK 0 (c + micros)) h)
+    aired-keeps k (rouse k (k .actors) (fireAll k (k .timers) (fired 0 (poke s CLOCK 0 (head s CLOCK + micros))) .state)) (roused-good micros k s g p)
 
 -- its test is the reckoning's
 pub advance-same : (micros : ℕ) → Tested (advance micros)
@@ -206,4 +214,6 @@ advance-agrees micros k s l g a p =
     let u = poke s CLOCK 0 (c + micros) in
     let h = raised micros k s g p in
     let m = later micros l in
-    rouse-agrees (k .actors) k c (fires (firings m) m) (fireAll k (k .timers) (fired 0 u) .state) (fireAll-late k t c (k .timers) 0 u h) (advance-fires k s l micros g a h .1)
+    let f = fireAll k (k .timers) (fired 0 u) .state in
+    aired-agrees k (fires (firings m) m) (rouse k (k .actors) f) (roused-good micros k s g p)
+    (rouse-agrees (k .actors) k c (fires (firings m) m) f (fireAll-late k t c (k .timers) 0 u h) (advance-fires k s l micros g a h .1))

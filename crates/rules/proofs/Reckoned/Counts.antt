@@ -12,7 +12,7 @@ use Rattle.ledger.specs.Call.Call.{op}
 use Rattle.ledger.specs.Call.Op.{advance, exit}
 use Rattle.ledger.specs.Ledger.{Ledger, Message}
 use Rattle.ledger.specs.Lists.{those}
-use Rattle.ledger.specs.Reckon.{cleared, departed, endLinks, endMonitors, endTimers, entered, firedTimers, firings, gone, later, losses, mailed, notices, page, partnerNotes, parts, sendings, sent, tick, unlinks, watcherNotes}
+use Rattle.ledger.specs.Reckon.{aired, cleared, departed, endLinks, endMonitors, endReaders, endTimers, entered, firedTimers, firings, gone, later, losses, mailed, notices, page, partnerNotes, parts, sendings, sent, tick, unlinks, watcherNotes}
 use Rattle.ledger.specs.Room.{datasLeft, mailsLeft, messagesLeft}
 use Rattle.pools.specs.Pool.{occurs}
 use Rattle.tables.specs.declared.Caps.{Caps}
@@ -80,7 +80,7 @@ module _ (me reason : ℕ) (l : Ledger) where
 
   -- THE LAW: the mailboxes hold what they held, but for what was the ended actor's, and the notices that are sent
   pub departed-boxes : departed me reason l .mail .boxes ≡ those (λ m. not (eqb (m .to) me)) (l .mail .boxes) ++ mailed parts me reason l
-  unfolding departed gone cleared endLinks endMonitors endTimers
+  unfolding departed gone cleared endLinks endMonitors endReaders endTimers
   departed-boxes =
       append-assoc (those (λ m. not (eqb (m .to) me)) (l .mail .boxes)) _ _
       ∙ ap (λ (m : List Message). those (λ m. not (eqb (m .to) me)) (l .mail .boxes) ++ (unlinks .posts me reason (cleared me l) ++ m)) (sym (append-nil _))
@@ -93,7 +93,7 @@ module _ (k : Caps) (s : State) (l : Ledger) (g : Good k s) (a : Agrees k l s) w
       (entered (record { call = op (advance micros); answer = step (advance micros) k s .ans }) l .mail .boxes ≡ l .mail .boxes ++ ms)
       × (counted (step (advance micros) k s .ans) ≡ length ms ∷ [])
       × (length ms ≡ firings (later micros l))
-  unfolding entered
+  unfolding aired entered
   advance-arrived micros n =
       let e = ticks-sent micros l (once-there k l s (g .sized) (g .range) a) in
       (rw n (fires-does (firings (later micros l)) (later micros l) .0), step-counts (advance micros) k s l g a n ∙ rw e, e)

@@ -1,5 +1,5 @@
 -- From the tables to the reckoning: its lists over a list of entries, what its things name, and the tests that it shares with the tables.
-use Prim.Native.Nat.{ℕ, zero, suc, _+_, _-_, _≤_, _<_}
+use Prim.Native.Nat.{ℕ, zero, suc, _+_, _-_, _*_, _/_, _%_, _≤_, _<_}
 use native.Mathlib.Nat.{le-of-suc-le-suc}
 use native.Mathlib.Omega.{arith}
 use mathlib.Core.Path.{_≡_, refl, sym, ap, ap₂, _∙_, fun-ext}
@@ -22,17 +22,18 @@ use Rattle.pools.proofs.ListLaws.{occurs-append, occurs-getD, occurs-head, occu
 use Rattle.pools.proofs.ExactLaws.{exact-free, exact-used}
 use Rattle.pools.proofs.SlotLaws.{slot-of-id, id-pos, live-id, live-is, of-live}
 use Rattle.tables.specs.declared.Caps.{Caps}
-use Rattle.tables.specs.Columns.{AGE, DATA-FREE, HAND, LINK-ONE, LINK-TWO, MAIL-FREE, MAIL-OWNER, MONITOR-AGE, STATE, TIMER-AGE, TIMER-OWNER, WATCHED, WATCHER}
-use Rattle.tables.specs.Limits.{ACTOR-FACTOR, OLDEST}
-use Rattle.tables.specs.State.{State, at}
+use Rattle.tables.specs.Columns.{AGE, DATA-FREE, HAND, ISSUED, LINK-ONE, LINK-TWO, MAIL-FREE, MAIL-OWNER, MONITOR-AGE, SEAT, STATE, TIMER-AGE, TIMER-OWNER, WATCHED, WATCHER}
+use Rattle.tables.specs.Limits.{ACTOR-FACTOR, MOST-BUSES, MOST-SEATS, OLDEST}
+use Rattle.tables.specs.State.{State, at, head}
 use Rattle.rules.specs.Aged.{isWorn, Aged, canTake, actorPool, timerPool, monitorPool, slotsLeft}
 use Rattle.rules.specs.Terms.{RUNS, actorId, alive, isActor, runner, runnerId}
-use Rattle.rules.specs.Agrees.{Agrees, actorAt, arrivals, boxAt, handAt, letter, linkAt, usedMail, InPool, named, owners}
+use Rattle.rules.specs.Agrees.{Agrees, actorAt, arrivals, boxAt, handAt, letter, linkAt, upTo, usedMail, valueSaid, valuesIn, InPool, named, owners}
+use Rattle.rules.specs.Buses.{seatAt, valueAt}
 use Rattle.rules.specs.Actions.{hasRoom}
 use Rattle.rules.proofs.Kept.Owners.{named-length, owner-some}
 use Rattle.rules.specs.Good.{Good}
 use Rattle.rules.proofs.Lists.Ties
-use Rattle.rules.proofs.Kept.Clauses.{mail-owner-lives, runner-fits, timer-owner-lives, timer-age-fits, monitor-ends, monitor-age-fits, link-ends, age-fits}
+use Rattle.rules.proofs.Kept.Clauses.{mail-owner-lives, runner-fits, timer-owner-lives, timer-age-fits, monitor-ends, monitor-age-fits, link-ends, age-fits, seat-lives}
 use Rattle.rules.proofs.Lists.Columns.{alive-of, of-alive, alive-below}
 
 -- ---- the reckoning's lists are the tables' entries, read
@@ -122,10 +123,14 @@ first-only p es e o w =
     (λ i h. w (getD es i 0) (occurs-getD es i (omega (arith, j .1))) ∙ ne-eqb (getD es i 0) e (λ q. omega (arith, occurs-once e es (omega arith) i (j .0) (omega (arith, j .1)) (j .1) q (j .2)))) in
     f .0 ∙ ap (λ (x : ℕ). x ∷ []) (j .2)
 
--- ---- what stands in a list of all that are in use is in use, and has a word
+-- ---- what stands in a list of all that are in use is in use
+pub listed-in : (words es : List ℕ) → Exact es (λ i. not (unused words i)) → (e : ℕ) → 0 < occurs e es → getD words e 0 ≡ 0 → ⊥
+listed-in words es x e o = eqb-false (getD words e 0) 0 (not-true (unused words e) (exact-used (λ i. not (unused words i)) es e x o))
+
+-- and has a word
 pub listed-used : (words es : List ℕ) (n : ℕ) → length words ≡ n → Exact es (λ i. not (unused words i)) → (e : ℕ) → 0 < occurs e es → (getD words e 0 ≡ 0 → ⊥) × (e < n)
 listed-used words es n z x e o =
-    let d = eqb-false (getD words e 0) 0 (not-true (unused words e) (exact-used (λ i. not (unused words i)) es e x o)) in
+    let d = listed-in words es x e o in
     (d, omega (arith, alive-below words e (alive-of words e d)))
 
 -- an id of those in use that passes: it is live, and its slot passes
@@ -190,6 +195,13 @@ module _ (k : Caps) (s : State) (g : Good k s) where
   stranger id n a v =
       ne-eqb (actorId s a) id (λ z.
       true-false (isActor s id) (ap (isActor s) (sym z) ∙ live-id ACTOR-FACTOR (s STATE) (s AGE) a (omega (arith, alive-slot a v, g .range .fewActors)) (of-alive (s STATE) a v)) n)
+
+  -- who sits in a seat
+  pub seat-owner : (i : ℕ) → (at s SEAT i ≡ 0 → ⊥) → alive (s STATE) (at s SEAT i - 1) ≡ true
+  seat-owner i h =
+      let m : i < MOST-BUSES * MOST-SEATS = omega (arith, alive-below (s SEAT) i (alive-of (s SEAT) i h), g .sized .words SEAT (lit< tt)) in
+      let e : seatAt (i / MOST-SEATS) (i % MOST-SEATS) ≡ i = omega arith in
+      rw e at (seat-lives g (i / MOST-SEATS) (i % MOST-SEATS) (omega arith) (omega arith) (rw e h))
 
   module _ (l : Ledger) (r : Agrees k l s) where
     -- the owner of a queued message
@@ -328,7 +340,7 @@ module _ (k : Caps) (s : State) (g : Good k s) (l : Ledger) (r : Agrees k l s) w
   -- the data entries of the owners and the free ones are all data entries
   pub datas-count : total (holdings l) + count (free (s DATA-FREE)) (k .datas) ≡ l .sizes .datas
   datas-count =
-      rw (r .sizes, sym (length-map (l .mail .boxes) letter), sym (length-map (l .mail .hands) letter), r .mail .boxes, r .mail .hands, length-map (arrivals s) (boxAt s), length-map (r .mail .palms) (handAt s))
+      rw (r .sizes, sym (length-map (l .mail .boxes) letter), sym (length-map (l .mail .hands) letter), r .mail .boxes, r .mail .hands, length-map (arrivals s) (boxAt s), length-map (r .mail .palms) (handAt s), r .buses .values, length-map (valuesIn s) (valueSaid s (r .buses .rank)), length-map (upTo (head s ISSUED)) (valueAt s))
       (omega (arith, bits-left (k .datas) (free (s DATA-FREE)) (named s (owners s (r .mail .palms))) (r .mail .allDatas), named-length s (owners s (r .mail .palms))))
 
   -- data entries

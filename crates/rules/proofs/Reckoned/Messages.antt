@@ -28,23 +28,24 @@ use Rattle.pools.proofs.ExactLaws.{exact-keep, exact-put, exact-used}
 use Rattle.records.specs.Header.{classOf, packed, tagOf}
 use Rattle.records.proofs.HeaderLaws.{class-packed, tag-packed}
 use Rattle.tables.specs.declared.Caps.{Caps}
-use Rattle.tables.specs.Columns.{AGE, ARRIVAL, ARRIVED, CLOCK, DATA-FREE, HAND, LENGTH, MAIL-DATA, MAIL-FREE, MAIL-OWNER, PAYLOAD, RUNNING, SENDER, STATE}
+use Rattle.tables.specs.Columns.{AGE, ARRIVAL, ARRIVED, CLOCK, DATA-FREE, HAND, ISSUE, ISSUED, LENGTH, MAIL-DATA, MAIL-FREE, MAIL-OWNER, PAYLOAD, RUNNING, SENDER, STATE}
 use Rattle.tables.specs.Limits.{ACTOR-FACTOR, ANY-TAG, PAYLOAD-MOST}
 use Rattle.tables.specs.State.{State, at, head, poke, with-col}
 use Rattle.tables.specs.Action.{push, pull, takeBit, freeBit}
 use Rattle.rules.specs.Terms.{MESSAGE, WAITS, actorId, alive, fits, header, isActor, runner, runnerId, wants}
 use Rattle.rules.specs.Agrees.{Agrees, Letter, arrivals, boxAt, handAt, letter, messageOf, usedMail}
+use Rattle.rules.specs.Buses.{valueAt, valueOf}
 use Rattle.rules.specs.Sound.{OWNERS}
 use Rattle.rules.specs.Actions.{dataFor, delist, enlist, hasRoom, hears, letGo, mailFor, post, ready, unwait, wake}
 use Rattle.rules.specs.Calls.{await, dataOf, deadlineAt, dropAll, dropFirst, emptied, firstMatch, firstOf, handOver, matchAt, notAtAll, receiveBare}
 use Rattle.rules.specs.Run.{sayReceived}
-use Rattle.rules.proofs.Reckoned.Parts.{agrees-messages, agrees-people, living, pool-living}
+use Rattle.rules.proofs.Reckoned.Parts.{agrees-messages, agrees-people, buses-stay, living, pool-living}
 use Rattle.rules.proofs.Claims.{Agreed, Tested}
 use Rattle.rules.proofs.Frames.Wrote.{Wrote, apart, apart-at, mem, wrote-none, wrote-poke, wrote-still, wrote-within}
 use Rattle.rules.proofs.Frames.Actions.{DROPPED, MAILED, beside-dropFirst, wrote-await, wrote-enlist, wrote-letGo}
 use Rattle.rules.specs.Good.{Good}
 use Rattle.rules.proofs.Lists.Columns.{alive-below, alive-of, alive-same, each-set, other, set-zero}
-use Rattle.rules.proofs.Kept.Clauses.{length-fits, read-back, read-down, runner-fits}
+use Rattle.rules.proofs.Kept.Clauses.{issue-some, length-fits, read-back, read-down, runner-fits}
 use Rattle.rules.proofs.Reckoned.Ledger.{alive-slot, idle-same, known-same, runner-alive, running-is, but-map, first-at, first-map, actor-id-eqb, map-same-on, palm-owner, those-keep, those-map, message-room, runs-alive, runs-at}
 use Rattle.rules.proofs.Lists.Messages.{Wiped, Written, bytesAt, header-same, text-same}
 use Rattle.rules.proofs.Kept.Owners.{all-datas, arrivals-long, arrivals-room, boxes-exact, datas-arrived, owner-below, owner-else, owner-fresh, owner-some, owned, sole}
@@ -54,12 +55,17 @@ use Rattle.rules.proofs.Reckoned.Running.{wake-agrees}
 use Rattle.rules.proofs.Lists.Ties.{keep-in}
 use Rattle.rules.proofs.Guards.{second-passed, third-passed, fourth-passed}
 
+-- every value of a bus reads as before
+abbrev pub ValuesStay : State → State → Type 0
+ValuesStay s t = (i : ℕ) → i < head s ISSUED → valueOf s (valueAt s i) ≡ valueOf t (valueAt s i)
+
 -- THE LAW of messages: where nothing but messages changed, the reckoning follows once it says what is in mailboxes and hands
-pub agrees-mail : (k : Caps) (l : Ledger) (s t : State) → Good k t → Agrees k l s → Wrote MAILED s t →
+pub agrees-mail : (k : Caps) (l : Ledger) (s t : State) → Good k t → Agrees k l s → Wrote MAILED s t → ValuesStay s t →
     (boxes hands : List Message) (palms : List ℕ) → map letter boxes ≡ map (boxAt t) (arrivals t) → Exact palms (λ a. not (unused (t HAND) a)) → map letter hands ≡ map (handAt t) palms →
     Agrees k (withMail l (mail boxes hands)) t
-agrees-mail k l s t g r w boxes hands palms b x h =
+agrees-mail k l s t g r w y boxes hands palms b x h =
     agrees-messages w r _ (living w refl) refl (record { allBoxes = boxes-exact k t g; boxes = b; palms = palms; allPalms = x; hands = h; allDatas = all-datas k t g palms x })
+    (buses-stay w refl y (λ i n. rw (w .cols AGE refl)) (r .buses))
 
 -- an arrival is a mailbox entry in use
 arrival-is : (k : Caps) (s : State) → Good k s → (e : ℕ) → 0 < occurs e (arrivals s) → (e < k .mails) × (not (free (s MAIL-FREE) e) ≡ true)
@@ -106,19 +112,23 @@ module _ (k : Caps) (s t : State) (c e : ℕ) (y : Kept c e s t) (ages : t AGE �
   hands-kept : (bs : List ℕ) → ((b : ℕ) → 0 < occurs b bs → (1 ≤ at s HAND b) × (eqb HAND c && eqb b e ≡ false) × (at t HAND b ≡ at s HAND b)) → map (handAt s) bs ≡ map (handAt t) bs
   hands-kept bs h = map-same-on (handAt s) (handAt t) bs (λ b o. let p = h b o in rw (ages, p .2) (y HAND b (actorId s b) refl (p .0) (p .1)))
 
+-- so do the values of the buses, where the owner is another
+values-stay : (k : Caps) (s t : State) (c e : ℕ) → Good k s → eqb ISSUE c ≡ false → Kept c e s t → ValuesStay s t
+values-stay k s t c e g q y i h = ap (λ (x : Letter). x .payload) (y ISSUE i 0 refl (issue-some g i h) (rw q))
+
 module _ (k : Caps) (l : Ledger) (s t : State) (g : Good k s) (g′ : Good k t) (r : Agrees k l s) (e : ℕ) where
   -- ---- THE LAWS of an owner: the others are passed on
   -- of the queued messages
   agrees-boxes : Wrote DROPPED s t → Kept MAIL-DATA e s t → (boxes : List Message) → map letter boxes ≡ map (boxAt t) (arrivals t) → Agrees k (withMail l (mail boxes (l .mail .hands))) t
   agrees-boxes w y boxes b =
-      agrees-mail k l s t g′ r (wrote-within MAILED w refl) boxes (l .mail .hands) (r .mail .palms) b (rw (w .cols HAND refl) (r .mail .allPalms))
+      agrees-mail k l s t g′ r (wrote-within MAILED w refl) (values-stay k s t MAIL-DATA e g refl y) boxes (l .mail .hands) (r .mail .palms) b (rw (w .cols HAND refl) (r .mail .allPalms))
       (r .mail .hands ∙ hands-kept k s t MAIL-DATA e y (w .cols AGE refl) (r .mail .palms) (λ b o. (owner-some (s HAND) (r .mail .palms) (r .mail .allPalms) b o, refl, rw (w .cols HAND refl))))
 
   -- of the hands
   agrees-hands : Wrote (HAND ∷ PAYLOAD ∷ LENGTH ∷ SENDER ∷ DATA-FREE ∷ []) s t → Kept HAND e s t → (hands : List Message) (palms : List ℕ) →
       Exact palms (λ a. not (unused (t HAND) a)) → map letter hands ≡ map (handAt t) palms → Agrees k (withMail l (mail (l .mail .boxes) hands)) t
   agrees-hands w y hands palms x h =
-      agrees-mail k l s t g′ r (wrote-within MAILED w refl) (l .mail .boxes) hands palms
+      agrees-mail k l s t g′ r (wrote-within MAILED w refl) (values-stay k s t HAND e g refl y) (l .mail .boxes) hands palms
       (r .mail .boxes ∙ boxes-kept k s t HAND e y (w .cols AGE refl) (arrivals s) (λ f o. (box-some k s g f o, refl, rw (w .cols MAIL-DATA refl), rw (w .cols MAIL-OWNER refl)))
       ∙ rw (w .cols ARRIVED refl, w .cols ARRIVAL refl)) x h
 
@@ -159,7 +169,7 @@ module _ (k : Caps) (s : State) (l : Ledger) (g : Good k s) (r : Agrees k l s) (
   unfolding letGo
   letGo-agrees-at =
       split (eqb (at s HAND a) 0)
-      (λ q. rw q (agrees-mail k l s s g r (wrote-still MAILED s) (l .mail .boxes) (those (λ m. not (eqb (m .to) (actorId s a))) (l .mail .hands)) (r .mail .palms) (r .mail .boxes) (r .mail .allPalms)
+      (λ q. rw q (agrees-mail k l s s g r (wrote-still MAILED s) (λ i h. refl) (l .mail .boxes) (those (λ m. not (eqb (m .to) (actorId s a))) (l .mail .hands)) (r .mail .palms) (r .mail .boxes) (r .mail .allPalms)
       (hands-left ∙ ap (map (handAt s)) (keep-all-on (λ b. not (eqb b a)) (r .mail .palms)
       (λ b o. rw (ne-eqb b a (λ e. let n = rw e at (owner-some (s HAND) (r .mail .palms) (r .mail .allPalms) b o) in
       omega (arith, n, eqb-true (at s HAND a) 0 q))))))))
@@ -316,7 +326,7 @@ module _ (k : Caps) (s : State) (l : Ledger) (g : Good k s) (r : Agrees k l s) (
           let new : boxAt s (mailOf s j) ≡ handAt t a = rw (read-down g HAND a (dataOf s j) tt (alive-slot k s g a there), o) in
           let palms = exact-put (λ b. not (unused (s HAND) b)) (λ b. not (unused (set (s HAND) a d) b)) (r .mail .palms) a (r .mail .allPalms) (rw empty)
           (rw (read-back g HAND a d tt (alive-slot k s g a there), ne-eqb d 0 (λ z. omega arith))) (λ b n. rw (other (s HAND) a d b (ne-eqb b a n))) in
-          agrees-mail k l s t (handOver-keeps k s g j jl a there empty) r (wrote-within MAILED (wrote-poke (delist-wrote k s g j jl) HAND a d) refl)
+          agrees-mail k l s t (handOver-keeps k s g j jl a there empty) r (wrote-within MAILED (wrote-poke (delist-wrote k s g j jl) HAND a d) refl) (λ i h. refl)
           (butFirst (λ m. p (letter m)) (l .mail .boxes)) (l .mail .hands ++ held) (r .mail .palms ++ (a ∷ [])) (left-boxes t kept mark refl) palms
           (map-append letter (l .mail .hands) held
           ∙ ap₂ (λ (x y : List Letter). x ++ y) (r .mail .hands ∙ old) (first-box ∙ ap (λ (x : Letter). x ∷ []) new)
@@ -369,7 +379,7 @@ dropFirst-agrees k s l a g r there =
     (box-own k s a g there (mailOf s (firstOf s a)) (arrival-in-list k s g (firstOf s a) h) ∙ lowest-at (λ i. eqb (at s MAIL-OWNER (at s ARRIVAL i)) (suc a)) (at s ARRIVED 0) h)
     (λ i m. box-own k s a g there (mailOf s i) (arrival-in-list k s g i (omega arith)) ∙ lowest-first (λ i. eqb (at s MAIL-OWNER (at s ARRIVAL i)) (suc a)) (at s ARRIVED 0) i m)
     (wipe (s PAYLOAD) (dataOf s (firstOf s a))) (wipe-is k s (dataOf s (firstOf s a)) (g .sized) (dataOf-below k s g (firstOf s a) h))))
-    (λ q. rw (dropFirst-none s a q) (agrees-mail k l s s g r (wrote-still MAILED s) (butFirst (toId (actorId s a)) (l .mail .boxes)) (l .mail .hands) (r .mail .palms)
+    (λ q. rw (dropFirst-none s a q) (agrees-mail k l s s g r (wrote-still MAILED s) (λ i h. refl) (butFirst (toId (actorId s a)) (l .mail .boxes)) (l .mail .hands) (r .mail .palms)
     (sym (but-map (λ x. eqb (x .to) (actorId s a)) letter (l .mail .boxes)) ∙ ap (butFirst (λ x. eqb (x .to) (actorId s a))) (r .mail .boxes)
     ∙ but-map (λ x. eqb (x .to) (actorId s a)) (boxAt s) (arrivals s) ∙ ap (map (boxAt s)) (but-none (λ e. eqb (actorId s (at s MAIL-OWNER e - 1)) (actorId s a)) (arrivals s) (λ e o.
     box-own k s a g there e o ∙ ne-eqb (at s MAIL-OWNER e) (suc a) (λ z.

@@ -6,9 +6,9 @@ use mathlib.Core.List.{List, [], _∷_, _++_, map, append-assoc, append-nil, map
 use lib.Dec.{eqb}
 use Rattle.ledger.specs.Call.{Op}
 use Rattle.ledger.specs.Call.Op.{spawn}
-use Rattle.ledger.specs.Ledger.{Actor, Ledger, Mail, Message, Timer}
+use Rattle.ledger.specs.Ledger.{Actor, Ledger, Mail, Message, Timer, Value}
 use Rattle.ledger.specs.Lists.{butFirst, some, those}
-use Rattle.ledger.specs.Reckon.{endTimers, firedTimers, fires, firing, page, rearmed, sent, soonest, tick, ticks}
+use Rattle.ledger.specs.Reckon.{endTimers, firedTimers, fires, firing, page, reading, rearmed, sent, soonest, tick, ticks}
 use Rattle.ledger.specs.Room.{known}
 use Rattle.pools.proofs.BoolLaws.{split, true-false}
 
@@ -111,6 +111,12 @@ fires-does (suc n) l =
           ∙ ap (λ (m : List Message). l .mail .boxes ++ m) (sym (map-append tick ts (firedTimers n (firing ts l)))),
       h .1 ∙ e .1,
     )
+
+-- ---- a value that is read, or none: nothing is sent, and nobody changes
+pub reading-else : (b id : ℕ) (vs : List Value) (l : Ledger) → (reading b id vs l .mail ≡ l .mail) × (reading b id vs l .people ≡ l .people)
+unfolding reading
+reading-else b id [] l = (refl, refl)
+reading-else b id (v ∷ vs) l = (refl, refl)
 
 -- ---- who is known
 -- who is among the actors and one more is among them or is that one

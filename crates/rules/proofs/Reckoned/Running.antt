@@ -17,7 +17,7 @@ use Rattle.pools.specs.Pool.{occurs}
 use Rattle.pools.specs.Slot.{idOf}
 use Rattle.pools.proofs.BoolLaws.{split}
 use Rattle.tables.specs.declared.Caps.{Caps}
-use Rattle.tables.specs.Columns.{AGE, HAND, LINK-ONE, LINK-TWO, MAIL-OWNER, PRIORITY, QUEUE, QUEUED, RUNNING, STATE, TIMER-OWNER, WATCHED, WATCHER}
+use Rattle.tables.specs.Columns.{AGE, HAND, LINK-ONE, LINK-TWO, MAIL-OWNER, PRIORITY, QUEUE, QUEUED, RUNNING, SEAT, STATE, TIMER-OWNER, WATCHED, WATCHER}
 use Rattle.tables.specs.Limits.{ACTOR-FACTOR, LEVELS, OLDEST}
 use Rattle.tables.specs.State.{State, at, head, with-col, poke}
 use Rattle.tables.specs.Action.{push, pull}
@@ -28,7 +28,7 @@ use Rattle.rules.specs.Actions.{halt, ready, unwait, wake}
 use Rattle.rules.specs.Calls.{firstHead, ruled, run, showEntry, slotFor}
 use Rattle.rules.proofs.Reckoned.Pools.{pool-begins, pool-stays, slots-full}
 use Rattle.rules.proofs.Frames.Pools.{next-slot}
-use Rattle.rules.proofs.Reckoned.Parts.{agrees-people, agrees-still, living, pool-living}
+use Rattle.rules.proofs.Reckoned.Parts.{agrees-people, agrees-still, buses-stay, living, pool-living}
 use Rattle.rules.proofs.Claims.{Agreed, Counted, Tested}
 use Rattle.rules.proofs.Frames.Wrote.{wrote-none, wrote-poke}
 use Rattle.rules.proofs.Frames.Actions.{wrote-ready, wrote-run, wrote-unwait}
@@ -36,7 +36,7 @@ use Rattle.rules.specs.Good.{Good}
 use Rattle.rules.proofs.Lists.Columns.{alive-same, of-alive, other, set-zero}
 use Rattle.rules.proofs.Reckoned.Ledger.{actors-left, bond-ends, box-owner, clock-owner, datas-left, eye-ends, first-map, first-none, first-only}
 use Rattle.rules.proofs.Reckoned.Ledger.{hand-same, actor-id-eqb, id-not-zero, idle-same, links-left, mails-left, map-same-on, monitors-left, palm-owner}
-use Rattle.rules.proofs.Reckoned.Ledger.{runner-alive, runner-runs, running-is, timers-left}
+use Rattle.rules.proofs.Reckoned.Ledger.{runner-alive, runner-runs, running-is, seat-owner, timers-left}
 use Rattle.rules.proofs.Kept.Running.{queue-at}
 use Rattle.rules.proofs.Guards.{first-passed, second-passed}
 use Rattle.rules.proofs.Kept.Clauses.{queue-fits, read-back}
@@ -97,6 +97,8 @@ module _ (k : Caps) (s : State) (l : Ledger) (g : Good k s) (r : Agrees k l s) (
           links = r .links .links ∙ map-same-on (linkAt s) (linkAt t) (r .links .bonds) (λ e p. let c = bond-ends k s g l r e p in rw (age-there (at s LINK-ONE e - 1) (c .0), age-there (at s LINK-TWO e - 1) (c .1)));
         };
         monitors = pool-stays (r .monitors) (monitorAt t) (λ i p. let c = eye-ends k s g l r i p in rw (age-there (at s WATCHER i - 1) (c .0), age-there (at s WATCHED i - 1) (c .1)));
+        buses = buses-stay (wrote-ready (wrote-poke (wrote-poke (wrote-none s) AGE a (at s AGE a + 1)) PRIORITY a priority) a 0) refl
+            (λ i m. refl) (λ i n. rw (age-there (at s SEAT i - 1) (seat-owner k s g i n))) (r .buses);
       }
 
 -- spawn: the reckoning has the new actor, by the id that was answered

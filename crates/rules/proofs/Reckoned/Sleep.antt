@@ -21,6 +21,7 @@ use Rattle.rules.specs.Rule.{Holds}
 use Rattle.rules.specs.Sound.{soundRule, viewOf}
 use Rattle.rules.specs.Terms.{runner}
 use Rattle.rules.specs.Actions.{due, earliest}
+use Rattle.rules.specs.Buses.{aired}
 use Rattle.rules.specs.Calls.{Sleeps, advanceEntry, fireAll, fired, firstHead, out, rouse, ruled, sleep, wakesBy}
 use Rattle.rules.specs.Run.{step}
 use Rattle.rules.specs.Story.{Meets}
@@ -161,8 +162,8 @@ module _ (k : Caps) (s : State) (t : ℕ) (g : Good k s) (q : wakesBy k s t ≡ 
   none-roused zero = refl
   none-roused (suc m) = rw (clock-at, none-at .1)
 
--- THE THEOREM: an advance that ends before the time to sleep has passed does nothing but raise the clock
-pub advance-early : (k : Caps) (s : State) (d j : ℕ) → Good k s → sleep k s ≡ pos d → j < d → advanceEntry j .work k s ≡ out (record { no = 0; fired = 0 }) (poke s CLOCK 0 (head s CLOCK + j))
+-- THE THEOREM: an advance that ends before the time to sleep has passed does nothing but raise the clock, and end the values of buses that have reached their age by then
+pub advance-early : (k : Caps) (s : State) (d j : ℕ) → Good k s → sleep k s ≡ pos d → j < d → advanceEntry j .work k s ≡ out (record { no = 0; fired = 0 }) (aired (poke s CLOCK 0 (head s CLOCK + j)))
 advance-early k s d j g e l =
     let w = (subst (λ (z : ℤ). Sleeps k s z) e (sleep-right k s g)) .0 j l in
     rw (none-fired k s (head s CLOCK + j) g w (k .timers), none-roused k s (head s CLOCK + j) g w (k .actors))

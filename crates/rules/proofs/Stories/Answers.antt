@@ -10,13 +10,14 @@ use lib.Dec.{eqb, ltb}
 use Rattle.ledger.specs.Call.{Answer, Call, Op, Sizes, Why, code, counted, number, numbered, refuses, zeroed}
 use Rattle.ledger.specs.Call.Answer.{part}
 use Rattle.ledger.specs.Call.Call.{start, op}
-use Rattle.ledger.specs.Call.Op.{receive, show}
+use Rattle.ledger.specs.Call.Op.{read, receive, show}
 use Rattle.ledger.specs.Ledger.{Ledger, Message}
 use Rattle.ledger.specs.Lists.{some}
 use Rattle.ledger.specs.Reckon.{leaf, short, refusalDue}
 use Rattle.ledger.specs.Room.{holds, idle, inHand}
 use Rattle.pools.proofs.BoolLaws.{split, true-false}
-use Rattle.tables.specs.Columns.{ARRIVED}
+use Rattle.tables.specs.declared.Caps.{Caps}
+use Rattle.tables.specs.Columns.{ARRIVED, ISSUED}
 use Rattle.tables.specs.State.{State, capsOf, head, joinP, joinW}
 use Rattle.tables.proofs.ViewLaws.{join-view}
 use Rattle.rules.specs.Rule.{Holds, test}
@@ -24,9 +25,10 @@ use Rattle.rules.specs.Sound.{soundRule, viewOf}
 use Rattle.rules.specs.Terms.{runner}
 use Rattle.rules.specs.Actions.{letGo}
 use Rattle.rules.specs.Agrees.{shows, spelled}
+use Rattle.rules.specs.Buses.{oldestUnread}
 use Rattle.rules.specs.Calls.{Out, entry, firstMatch, notAtAll, receiveBare}
 use Rattle.rules.specs.Host.{canStart}
-use Rattle.rules.specs.Run.{sayReceived, seven, step}
+use Rattle.rules.specs.Run.{say, sayReceived, seven, step}
 use Rattle.rules.specs.Story.{Kept, Meets, capsFrom}
 use Rattle.rules.proofs.Reckoned.Firing.{first-either, none-first}
 use Rattle.rules.proofs.Stories.Host.{called-broken, called-sound}
@@ -105,6 +107,17 @@ line-refused (op o) = λ w p r w′ p′ m e.
     (λ t. let d = called-broken (seven o) (step o) w p (λ h. true-false (test (soundRule w p)) (reads (soundRule w p) .1 h) t) m in
     (d .1, d .2, rw (d .0) (refusal-zeroed (entry o .shape) 7)))
 
+-- where the work of a call answers 0 or has zeros beside its number, so has the call on any buffers
+unmet-zeros : (o : Op) → ((k : Caps) (s : State) → let x = say (entry o .shape) (entry o .work k s .ans) in (number x ≡ 0 → ⊥) → x ≡ zeroed x) →
+    (w p : List ℕ) (r : Answer) (w′ p′ : List ℕ) → Meets (op o) w p r w′ p′ → (number r ≡ 0 → ⊥) → r ≡ zeroed r
+unmet-zeros o zeros w p r w′ p′ m n =
+    let heard = say (entry o .shape) in
+    split (test (soundRule w p))
+    (λ t. let e = called-sound (seven o) (step o) w p (reads (soundRule w p) .0 t) m .0 in
+    rw e (step-all o (capsOf w) (viewOf w p) (λ x. (number (heard (x .ans)) ≡ 0 → ⊥) → heard (x .ans) ≡ zeroed (heard (x .ans)))
+    (λ y z. refusal-zeroed (entry o .shape) (code y)) (λ q. zeros (capsOf w) (viewOf w p)) (rw e at n)))
+    (λ t. rw (called-broken (seven o) (step o) w p (λ h. true-false (test (soundRule w p)) (reads (soundRule w p) .1 h) t) m .0) (refusal-zeroed (entry o .shape) 7))
+
 -- once the hand is empty, receive finds its message, or answers 5 or 6 with zeros
 bare-zeros : (sender class tag : ℕ) (wait : ℤ) (a : ℕ) (s : State) → let x = sayReceived (receiveBare sender class tag wait a s .ans) in (number x ≡ 0 → ⊥) → x ≡ zeroed x
 unfolding receiveBare
@@ -114,10 +127,9 @@ bare-zeros sender class tag wait a s =
 
 -- THE THEOREM: "every other number answered is 0, as is any not named": on any buffers, beside receive's 5 and 6 too
 pub line-unmet : (sender class tag : ℕ) (wait : ℤ) (w p : List ℕ) (r : Answer) (w′ p′ : List ℕ) → Meets (op (receive sender class tag wait)) w p r w′ p′ → (number r ≡ 0 → ⊥) → r ≡ zeroed r
-line-unmet sender class tag wait w p r w′ p′ m n =
-    let o = receive sender class tag wait in
-    split (test (soundRule w p))
-    (λ t. let e = called-sound (seven o) (step o) w p (reads (soundRule w p) .0 t) m .0 in
-    rw e (step-all o (capsOf w) (viewOf w p) (λ x. (number (sayReceived (x .ans)) ≡ 0 → ⊥) → sayReceived (x .ans) ≡ zeroed (sayReceived (x .ans))) (λ y z. refl)
-    (λ q. bare-zeros sender class tag wait (runner (viewOf w p) - 1) (letGo (viewOf w p) (runner (viewOf w p) - 1))) (rw e at n)))
-    (λ t. rw (called-broken (seven o) (step o) w p (λ h. true-false (test (soundRule w p)) (reads (soundRule w p) .1 h) t) m .0))
+line-unmet sender class tag wait = unmet-zeros (receive sender class tag wait) (λ k s. bare-zeros sender class tag wait (runner s - 1) (letGo s (runner s - 1)))
+
+-- THE THEOREM: and beside read's 5 nothing is copied
+pub line-not-new : (b room : ℕ) (w p : List ℕ) (r : Answer) (w′ p′ : List ℕ) → Meets (op (read b room)) w p r w′ p′ → (number r ≡ 0 → ⊥) → r ≡ zeroed r
+line-not-new b room =
+    unmet-zeros (read b room) (λ k s. split (ltb (oldestUnread s b (runner s)) (head s ISSUED)) (λ q. rw q (λ n. absurd (n refl))) (λ q. rw q (λ n. refl)))

@@ -24,6 +24,7 @@ use Rattle.tables.specs.Action.{freeBit, pull, push, takeBit, write}
 use Rattle.rules.specs.Aged.{endOwn, endUse}
 use Rattle.rules.specs.Terms.{fits, headerAt, joins, wants}
 use Rattle.rules.specs.Actions.{delist, enlist, fill, letGo, post, ready, stir, unwait}
+use Rattle.rules.specs.Buses.{leaveBuses}
 use Rattle.rules.specs.Calls.{Out, Told, cutLink, cutLinks, cutMonitor, cutMonitors, dropAll, depart, firstHead, handOver, linkOf, loosen, out, receiveBare, ruled, run, steps, tell, through, tie, told, vacate, Step}
 use Rattle.rules.specs.Host.{fresh, freed, stated, zeroed}
 use Rattle.rules.specs.Run.{afterwards, lines, play, step}
@@ -81,7 +82,7 @@ module _ (s : State) where
 
   -- nobody watched it, and of its own monitors and timers it has none
   no-more : through lastly k 0 64 CRASH noted ≡ told 0 0 noted
-  unfolding noted tied afterwards ruled lowest poke with-col fresh freed stated zeroed ready push pull run firstHead post stir enlist fill takeBit write tie joins cutMonitors cutMonitor unwait fits wants endOwn
+  unfolding noted tied afterwards ruled lowest poke with-col fresh freed stated zeroed ready push pull run firstHead post stir enlist fill takeBit write tie joins cutMonitors cutMonitor unwait fits wants endOwn leaveBuses
   no-more = refl
 
   -- so its end tells one, loses no notice, and leaves nothing else to do but its slot

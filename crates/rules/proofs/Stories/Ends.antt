@@ -18,7 +18,7 @@ use Rattle.ledger.specs.Room.{known}
 use Rattle.pools.proofs.BoolLaws.{and-left, and-right, split, true-false}
 use Rattle.pools.proofs.SlotLaws.{live-id}
 use Rattle.tables.specs.declared.Caps.{Caps}
-use Rattle.tables.specs.Columns.{AGE, LINK-ONE, LINK-TWO, MAIL-OWNER, STATE, TIMER-OWNER, WATCHED, WATCHER}
+use Rattle.tables.specs.Columns.{AGE, LINK-ONE, LINK-TWO, MAIL-OWNER, SEAT, STATE, TIMER-OWNER, WATCHED, WATCHER}
 use Rattle.tables.specs.Limits.{ACTOR-FACTOR, ANY-TAG, LAST-REASON, PAYLOAD-MOST}
 use Rattle.tables.specs.State.{State, at, capsOf, joinP, joinW}
 use Rattle.tables.proofs.ViewLaws.{join-view}
@@ -28,12 +28,12 @@ use Rattle.rules.specs.Sound.{soundRule, viewOf}
 use Rattle.rules.specs.Calls.{depart, exitEntry, ruled}
 use Rattle.rules.specs.Run.{seven, step}
 use Rattle.rules.specs.Story.{Aims, Kept, Meets, Story, begins, capsFrom, line, startless}
-use Rattle.rules.specs.Agrees.{Agrees, arrivals, boxAt, handAt, letter, linkAt, monitorAt, timerAt}
+use Rattle.rules.specs.Agrees.{Agrees, arrivals, boxAt, handAt, letter, linkAt, monitorAt, readerAt, timerAt}
 use Rattle.rules.proofs.Lists.Columns.{of-alive}
 use Rattle.rules.proofs.Ends.Departs.{depart-agrees, depart-keeps, depart-leaves-nothing, exit-leaves-nothing}
 use Rattle.rules.specs.Good.{Good}
 use Rattle.rules.proofs.Kept.Host.{good-view, host-keeps}
-use Rattle.rules.proofs.Reckoned.Ledger.{alive-slot, bond-ends, box-owner, clock-owner, eye-ends, id-not-zero, known-same, palm-owner, runner-alive, running-is, some-map, some-no, stranger}
+use Rattle.rules.proofs.Reckoned.Ledger.{alive-slot, bond-ends, box-owner, clock-owner, eye-ends, id-not-zero, known-same, listed-in, palm-owner, runner-alive, running-is, seat-owner, some-map, some-no, stranger}
 use Rattle.rules.proofs.Stories.Over.{Over, over-once, over-stays}
 use Rattle.rules.proofs.Kept.Start.{start-refused}
 use Rattle.rules.proofs.Stories.Story.{line-kept, story-kept}
@@ -62,6 +62,9 @@ module _ (k : Caps) (s : State) (l : Ledger) (g : Good k s) (r : Agrees k l s) (
       monitors = rw (r .monitors .are, some-map (λ m. eqb (m .target) id || eqb (m .watcher) id) (monitorAt s) (r .monitors .slots))
           (some-no (λ i. eqb (actorId s (at s WATCHED i - 1)) id || eqb (actorId s (at s WATCHER i - 1)) id) (r .monitors .slots) (λ i o.
           let b = eye-ends k s g l r i o in rw (another n _ (b .1), another n _ (b .0))));
+      readers = rw (r .buses .readers, some-map (λ x. eqb (x .who) id) (readerAt s (r .buses .cursor)) (r .buses .seats))
+          (some-no (λ i. eqb (actorId s (at s SEAT i - 1)) id) (r .buses .seats) (λ i o.
+          another n _ (seat-owner k s g i (listed-in (s SEAT) (r .buses .seats) (r .buses .allSeats) i o))));
       live = n;
     };
     rests = λ e. split (eqb (runner s) 0)

@@ -15,6 +15,7 @@ use Rattle.rules.specs.Rule.{test}
 use Rattle.rules.specs.Sound.{rangeRule}
 use Rattle.rules.specs.Terms.{fits, headerAt, joins, wants}
 use Rattle.rules.specs.Actions.{delist, enlist, fill, least, letGo, post, ready, stir, unfill, unwait}
+use Rattle.rules.specs.Buses.{airing, leaveBuses}
 use Rattle.rules.specs.Calls.{await, cutLink, cutLinks, cutMonitor, cutMonitors, depart, dropAll, dropFirst, fire, fireAll, firstHead, handOver, loosen, rearm, receiveBare, rouse, ruled, run, sleep, tell, tie, vacate}
 use Rattle.rules.specs.Host.{fresh, freed, stated, zeroed}
 use Rattle.rules.specs.Run.{afterwards, lines, play}
@@ -53,7 +54,7 @@ rights (r ∷ rs) c = (right r (c .0), rights rs (c .1))
 -- ---- by computation
 -- the rows of small pools
 small : AllComputed smallRows
-unfolding ruled lowest le exitBytes readExit tickBytes poke with-col glue joinP freeBit pull push takeBit write fits headerAt joins wants delist enlist fill
+unfolding airing leaveBuses ruled lowest le exitBytes readExit tickBytes poke with-col glue joinP freeBit pull push takeBit write fits headerAt joins wants delist enlist fill
     least letGo post ready stir unfill unwait beginUse await cutLink cutLinks cutMonitor cutMonitors endUse dropAll dropFirst endOwn depart fire fireAll
     firstHead handOver loosen vacate rearm receiveBare rouse run sleep tell tie fresh freed stated zeroed afterwards lines
 small =

@@ -13,7 +13,7 @@ use Rattle.tables.proofs.ViewLaws.{join-view}
 use Rattle.rules.specs.Rule.{test, Holds}
 use Rattle.rules.specs.Sound.{fitRule, rangeRule, soundRule, viewOf, Ready}
 use Rattle.rules.specs.Calls.{Ans, Out, Shape, entry, ruled}
-use Rattle.rules.specs.Calls.Shape.{aNumber, anId, aTurn, aMessage, aPart, aPlace, anEnd, anAdvance, aReport}
+use Rattle.rules.specs.Calls.Shape.{aNumber, anId, aTurn, aMessage, aPart, aPlace, anEnd, anAdvance, aReport, aCopy}
 use Rattle.rules.specs.Host.{Called, Gives, Started, answered, canStart, fresh}
 use Rattle.rules.specs.Run.{say, seven, step}
 use Rattle.rules.specs.Story.{Meets}
@@ -81,6 +81,7 @@ say-once aPlace a b e = let f : _≡_ {A = Ans aPlace} (record { no = a .no; off
 say-once anEnd a b e = let f : _≡_ {A = Ans anEnd} (record { no = a .no; sent = a .sent; lost = a .lost }) (record { no = b .no; sent = b .sent; lost = b .lost }) = cc in f
 say-once anAdvance a b e = let f : _≡_ {A = Ans anAdvance} (record { no = a .no; fired = a .fired }) (record { no = b .no; fired = b .fired }) = cc in f
 say-once aReport a b e = let f : _≡_ {A = Ans aReport} (record { no = a .no; free = a .free }) (record { no = b .no; free = b .free }) = cc in f
+say-once aCopy a b e = let f : _≡_ {A = Ans aCopy} (record { no = a .no; bytes = a .bytes }) (record { no = b .no; bytes = b .bytes }) = cc in f
 
 -- so what C gets is the answer of the rule, or 7's
 pub meets-answered : (o : Op) (w p : List ℕ) (a : Ans (entry o .shape)) {w′ p′ : List ℕ} → Meets (op o) w p (say (entry o .shape) a) w′ p′ → a ≡ answered (entry o) w p

@@ -8,11 +8,11 @@ use Rattle.ledger.specs.Call.{Answer, Line, Op, Sizes}
 use Rattle.ledger.specs.Call.Answer.{plain, made, turn, received, ended, advanced}
 use Rattle.ledger.specs.Call.Call.{op, start}
 use Rattle.ledger.specs.Call.Op.{advance, cancel, every, exit, link, monitor, next, notify, receive, report, shown, spawn, unlink, yield}
-use Rattle.ledger.specs.Ledger.{Ledger, Says, mail, people, ties, time}
+use Rattle.ledger.specs.Ledger.{Ledger, Says, buses, mail, people, ties, time}
 use Rattle.ledger.specs.Ledger.Says.{ticked, wrote}
 use Rattle.ledger.specs.Lists.{butFirst, bySlot, first, some, those}
 use Rattle.ledger.specs.Reckon as L
-use Rattle.ledger.specs.Reckon.{departed, endLinks, endMonitors, endTimers, entered, fires, firing, firings, gone, message, notices, page, partnerNotes}
+use Rattle.ledger.specs.Reckon.{aired, departed, endLinks, endMonitors, endReaders, endTimers, entered, fires, firing, firings, gone, message, notices, page, partnerNotes}
 use Rattle.ledger.specs.Reckon.{rearmed, reckon, runs, sendings, soonest, pickedUp, timer, refusalDue, wanted, watcherNotes, wornBy}
 use Rattle.pools.specs.Pool.{lowest}
 use Rattle.records.specs.Bytes.{le}
@@ -23,6 +23,7 @@ use Rattle.tables.specs.Action.{freeBit, pull, push, takeBit, write}
 use Rattle.rules.specs.Aged.{beginUse, endOwn, endUse}
 use Rattle.rules.specs.Terms.{fits, headerAt, joins, wants}
 use Rattle.rules.specs.Actions.{delist, enlist, fill, least, letGo, post, ready, stir, unfill, unwait}
+use Rattle.rules.specs.Buses.{airing, leaveBuses}
 use Rattle.rules.specs.Calls.{cutLink, cutLinks, cutMonitor, cutMonitors, depart, dropAll, dropFirst, fire, fireAll, firstHead, handOver, loosen, rearm, receiveBare, rouse, ruled, run, tell, tie, vacate}
 use Rattle.rules.specs.Host.{fresh, freed, stated, zeroed}
 use Rattle.rules.specs.Run.{lines}
@@ -62,6 +63,7 @@ LEFT = record {
       (message 65 65 (wrote 8 (3 ∷ [])) ∷ []);
   time = time 300 (timer 64 65 500 200 ∷ []) [];
   ties = ties (record { one = 65; two = 64 } ∷ []) (record { id = 128; watcher = 65; target = 64 } ∷ []) [];
+  buses = buses [] [] [] 0;
 }
 
 -- each call with its answer
@@ -76,7 +78,7 @@ RAN = line (start FEW) (plain 0) ∷ lined RUN ANSWERS
 
 -- by the rules, whatever lies past the needed words and bytes
 computed : (s : State) → lines (capsFrom FEW) (fresh (capsFrom FEW) s) RUN ≡ lined RUN ANSWERS
-unfolding ruled lowest le exitBytes tickBytes poke with-col freeBit pull push takeBit write fits headerAt joins wants delist enlist fill least letGo post ready
+unfolding airing leaveBuses ruled lowest le exitBytes tickBytes poke with-col freeBit pull push takeBit write fits headerAt joins wants delist enlist fill least letGo post ready
     stir unfill unwait beginUse cutLink cutLinks cutMonitor cutMonitors endUse dropAll dropFirst endOwn depart fire fireAll firstHead handOver loosen vacate
     rearm receiveBare rouse run tell tie fresh freed stated zeroed lines
 computed s = refl
@@ -89,7 +91,7 @@ not-vacuous w p a b =
 
 -- THE THEOREM: and its reckoning, whatever was reckoned before the start, is this ledger
 pub reckoned : (l : Ledger) → reckon l RAN ≡ LEFT
-unfolding butFirst bySlot first some those L.cleared L.between L.emptyHanded departed endLinks endMonitors endTimers entered fires firing firings gone notices
+unfolding aired butFirst bySlot first some those L.cleared L.between L.emptyHanded departed endLinks endMonitors endReaders endTimers entered fires firing firings gone notices
     partnerNotes rearmed reckon sendings soonest pickedUp wanted watcherNotes wornBy
 reckoned l = refl
 

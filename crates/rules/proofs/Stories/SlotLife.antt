@@ -20,6 +20,7 @@ use Rattle.rules.specs.Aged.{endOwn, endUse}
 use Rattle.rules.specs.Sound.{rangeRule}
 use Rattle.rules.specs.Terms.{joins}
 use Rattle.rules.specs.Actions.{letGo, ready}
+use Rattle.rules.specs.Buses.{leaveBuses}
 use Rattle.rules.specs.Calls.{cutLink, cutLinks, cutMonitors, depart, dropAll, firstHead, loosen, out, Out, ruled, run, slotFor, vacate}
 use Rattle.rules.specs.Host.{fresh, freed, stated, zeroed}
 use Rattle.rules.specs.Run.{lines, play, step}
@@ -93,7 +94,7 @@ module _ (s : State) where
 
   -- then every word and byte is that of a slot one older
   same : (g : ℕ) → (joinW (ran (taken g)) ≡ joinW (aged (g + 1))) × (joinP (ran (taken g)) ≡ joinP (aged (g + 1)))
-  unfolding joinW joinP glue aged taken ruled lowest poke with-col fresh freed stated zeroed ready push pull run firstHead depart cutLinks cutLink cutMonitors dropAll endOwn letGo joins loosen vacate endUse
+  unfolding joinW joinP glue aged taken ruled lowest poke with-col fresh freed stated zeroed ready push pull run firstHead depart cutLinks cutLink cutMonitors dropAll endOwn leaveBuses letGo joins loosen vacate endUse
   same g = (refl, refl)
 
   -- each such state lies in buffers
@@ -137,7 +138,7 @@ module _ (s : State) where
 
   -- its last use, after which slot 1 is the lowest
   last-use : play k (aged 32999999) (spawn 0 ∷ next ∷ exit NORMAL ∷ spawn 0 ∷ []) ≡ made 0 2112000000 ∷ turn 0 2112000000 0 (pos 0) ∷ ended 0 0 0 ∷ made 0 65 ∷ []
-  unfolding aged ruled lowest poke with-col fresh freed stated zeroed ready push pull run firstHead depart cutLinks cutLink cutMonitors dropAll endOwn letGo joins loosen vacate lines endUse
+  unfolding aged ruled lowest poke with-col fresh freed stated zeroed ready push pull run firstHead depart cutLinks cutLink cutMonitors dropAll endOwn leaveBuses letGo joins loosen vacate lines endUse
   last-use = refl
 
   -- THE THEOREM: from a fresh state on, slot 0 gives an id at each of 33,000,000 uses, the last of them 2,112,000,000; the spawn after that takes slot 1
