@@ -1,6 +1,6 @@
 -- Buses, in terms of the tables: their values, their seats, and what the calls do to them.
 -- What was published and still stands on a bus is a value. A subscriber sits in a seat of the bus, the lowest that was free; it keeps it while it is subscribed.
-use Prim.Native.Nat.{ℕ, zero, suc, _+_, _-_, _*_}
+use Prim.Native.Nat.{ℕ, zero, suc, _+_, _-_, _*_, _^_}
 use mathlib.Core.Bool.{Bool, cond, not, _&&_, _||_}
 use mathlib.Core.List.{List}
 use lib.ListN.{take, drop}
@@ -74,7 +74,7 @@ signed mask n = marked (cleared mask (MOST-SEATS + n)) n
 -- "a new subscriber sees nothing published before": what is published now may be read by those who sit in the first n seats now
 unfoldable pub audience : State → ℕ → ℕ → ℕ
 audience s b zero = 0
-audience s b (suc n) = cond (eqb (inSeat s b n) 0) (audience s b n) (marked (audience s b n) (MOST-SEATS + n))
+audience s b (suc n) = audience s b n + cond (eqb (inSeat s b n) 0) 0 (2 ^ (MOST-SEATS + n))
 
 -- ---- values: they stand in one row for all buses, in the order of publishing; a bus's values are those of that row with its number
 -- the data entry of the i-th

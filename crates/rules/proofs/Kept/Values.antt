@@ -1,9 +1,10 @@
 -- What is done to the values of the buses keeps a sound state sound.
 use Prim.Native.Nat.{ℕ, zero, suc, _+_, _-_, _≤_, _<_}
 use native.Mathlib.Decide.{decLt}
+use native.Mathlib.Nat.{add-zero}
 use native.Mathlib.Omega.{arith}
 use mathlib.Core.Path.{_≡_, refl, _∙_}
-use mathlib.Core.Bool.{Bool, true, false, not, _&&_}
+use mathlib.Core.Bool.{cond, Bool, true, false, not, _&&_}
 use mathlib.Core.List.{List, _∷_, map}
 use mir.Val.{boolByte}
 use lib.ListN.{length, getD, set, take, drop, length-map, List·getD-append, take-append-drop}
@@ -12,11 +13,11 @@ use lib.Dec.{eqb, ltb, lit<}
 use borrow.Author.Tests.{eqb-true, eqb-false, eq-eqb, le-ltb, leb-false, leb-true, lt-ltb, ltb-false, ltb-true, ne-eqb, not-false, not-true}
 use Rattle.pools.specs.Pool.{Exact, lowest, occurs}
 use Rattle.pools.specs.Lists.{without}
-use Rattle.pools.specs.Bits.{bit, cleared, free, released, taken}
+use Rattle.pools.specs.Bits.{bit, cleared, free, marked, released, taken}
 use Rattle.pools.proofs.BoolLaws.{split, flag≤, true-false}
 use Rattle.pools.proofs.ListLaws.{length-without, occurs-append, occurs-place, occurs-pos, occurs-without, without-at, without-before}
 use Rattle.pools.proofs.PoolLaws.{count-not, count-some, lowest-at, room-iff}
-use Rattle.pools.proofs.BitLaws.{bit-none, cleared-other, cleared-same, marked-other, marked-same}
+use Rattle.pools.proofs.BitLaws.{add-other, add-same, bit-none, cleared-other, cleared-same, marked-other, marked-same}
 use Rattle.pools.proofs.FreeLaws.{free-inside, released-other, released-same, taken-other, taken-same}
 use Rattle.pools.proofs.ExactLaws.{exact-length}
 use Rattle.tables.specs.declared.Caps.{Caps}
@@ -276,22 +277,31 @@ module _ (s : State) (b : ℕ) where
   unfolding audience
   audience-may zero n = rw (le-ltb n 0 (omega arith)) (bit-none (MOST-SEATS + n))
   audience-may (suc m) n =
+      let x = audience s b m in
       let last : ltb m (suc m) ≡ true = lt-ltb m (suc m) (omega arith) in
+      let bare : bit x (MOST-SEATS + m) ≡ 0 = audience-may m m ∙ rw (le-ltb m m (omega arith)) in
       split (eqb (inSeat s b m) 0)
-      (λ q. rw q (split (eqb n m)
-      (λ r. rw (eqb-true n m r, last, q) (audience-may m m ∙ rw (le-ltb m m (omega arith))))
+      (λ q. rw (q, add-zero x) (split (eqb n m)
+      (λ r. rw (eqb-true n m r, last, q) bare)
       (λ r. rw (step m n r) (audience-may m n))))
       (λ q. rw q (split (eqb n m)
-      (λ r. rw (eqb-true n m r, last, q) (marked-same (audience s b m) (MOST-SEATS + m)))
-      (λ r. rw (step m n r) (marked-other (audience s b m) (MOST-SEATS + m) (MOST-SEATS + n) (λ z. eqb-false n m r (omega arith)) ∙ audience-may m n))))
+      (λ r. rw (eqb-true n m r, last, q) (add-same x (MOST-SEATS + m) bare))
+      (λ r. rw (step m n r) (add-other x (MOST-SEATS + m) (MOST-SEATS + n) bare (λ z. eqb-false n m r (omega arith)) ∙ audience-may m n))))
+
+  -- one more of them is one more bit
+  pub audience-marks : (m : ℕ) → audience s b (suc m) ≡ cond (eqb (inSeat s b m) 0) (audience s b m) (marked (audience s b m) (MOST-SEATS + m))
+  unfolding audience
+  audience-marks m =
+      let bare : bit (audience s b m) (MOST-SEATS + m) ≡ 0 = audience-may m m ∙ rw (le-ltb m m (omega arith)) in
+      split (eqb (inSeat s b m) 0) (λ q. rw (q, add-zero (audience s b m))) (λ q. rw (q, bare) (omega arith))
 
   -- nobody has read it
   pub audience-unread : (m n : ℕ) → n < MOST-SEATS → bit (audience s b m) n ≡ 0
   unfolding audience
   audience-unread zero n l = bit-none n
   audience-unread (suc m) n l =
-      split (eqb (inSeat s b m) 0) (λ q. rw q (audience-unread m n l))
-      (λ q. rw q (marked-other (audience s b m) (MOST-SEATS + m) n (λ z. omega arith) ∙ audience-unread m n l))
+      split (eqb (inSeat s b m) 0) (λ q. rw (audience-marks m, q) (audience-unread m n l))
+      (λ q. rw (audience-marks m, q) (marked-other (audience s b m) (MOST-SEATS + m) n (λ z. omega arith) ∙ audience-unread m n l))
 
 -- ---- a value begins
 -- the state with a value of bus b in data entry d, for who may read it by a mask, where n is its length and q the payload area with it in that entry
