@@ -1,7 +1,7 @@
 -- Buses that say something: a story of two buses with these answers happens, its reckoning is this ledger, and there each refusal is due to some call.
 use Prim.Native.Nat.{ℕ, _≤_}
 use mathlib.Core.Path.{_≡_, refl, subst}
-use mathlib.Core.List.{List, [], _∷_, map}
+use mathlib.Core.List.{List, [], _∷_, _++_, map}
 use lib.ListN.{length}
 use lib.IntN.{pos}
 use Rattle.ledger.specs.Call.{Answer, Line, Op}
@@ -14,14 +14,14 @@ use Rattle.ledger.specs.Reckon as L
 use Rattle.ledger.specs.Reckon.{aired, busMade, departed, endLinks, endMonitors, endReaders, endTimers, entered, evicted, fires, firings, gone, issued, joined}
 use Rattle.ledger.specs.Reckon.{notices, page, partnerNotes, reading, reckon, refusalDue, watcherNotes, wornBy}
 use Rattle.ledger.specs.Room.{oldestUnread, payloadOf}
-use Rattle.pools.specs.Pool.{lowest, occurs}
+use Rattle.pools.specs.Pool.{count, lowest, occurs}
 use Rattle.records.specs.Bytes.{le}
 use Rattle.tables.specs.State.{State, needed, neededP, poke, view, with-col}
 use Rattle.tables.specs.Action.{freeBit, pull, push, takeBit, write}
 use Rattle.rules.specs.Aged.{endOwn, endUse}
 use Rattle.rules.specs.Terms.{joins}
 use Rattle.rules.specs.Actions.{fill, least, letGo, ready, unfill}
-use Rattle.rules.specs.Buses.{airing, broadcast, evict, forget, issue, leaveBuses, makeBus, retire, sitDown, standUp}
+use Rattle.rules.specs.Buses.{airing, audience, broadcast, evict, forget, issue, leaveBuses, makeBus, readOff, retire, sitDown, standUp}
 use Rattle.rules.specs.Calls.{cutLink, cutLinks, cutMonitor, cutMonitors, depart, dropAll, fireAll, firstHead, loosen, rouse, ruled, run, vacate}
 use Rattle.rules.specs.Host.{fresh, freed, stated, zeroed}
 use Rattle.rules.specs.Run.{lines}
@@ -67,20 +67,27 @@ BUS-LEFT = record {
 abbrev pub BUS-RAN : List Line
 BUS-RAN = line (start FEW) (plain 0) ∷ lined BUS-RUN BUS-ANSWERS
 
+-- then 65 reads: a slice of one byte is too short; it reads the value that came after it sat down, which then ends, and nothing else is there for it
+abbrev pub BUS-READS : List Op
+BUS-READS = BUS-RUN ++ (read 1 1 ∷ read 1 2 ∷ read 1 2 ∷ [])
+
+abbrev pub BUS-HEARD : List Answer
+BUS-HEARD = BUS-ANSWERS ++ (copied 1 [] ∷ copied 0 (5 ∷ 6 ∷ []) ∷ copied 5 [] ∷ [])
+
 -- by the rules, whatever lies past the needed words and bytes
-computed : (s : State) → lines (capsFrom FEW) (fresh (capsFrom FEW) s) BUS-RUN ≡ lined BUS-RUN BUS-ANSWERS
-unfolding airing broadcast evict forget issue leaveBuses makeBus retire sitDown standUp ruled lowest occurs le poke with-col freeBit pull push takeBit
+computed : (s : State) → lines (capsFrom FEW) (fresh (capsFrom FEW) s) BUS-READS ≡ lined BUS-READS BUS-HEARD
+unfolding airing audience broadcast evict forget issue leaveBuses makeBus readOff retire sitDown standUp ruled lowest occurs le poke with-col freeBit pull push takeBit
     write joins fill least letGo ready unfill cutLink cutLinks cutMonitor cutMonitors endUse dropAll endOwn depart fireAll firstHead loosen vacate rouse run
-    fresh freed stated zeroed lines
+    fresh freed stated zeroed lines count
 computed s = refl
 
 -- THE THEOREM: on any two buffers that are long enough, whatever they hold, a story with these lines happens
-pub buses-happen : (w p : List ℕ) → needed (capsFrom FEW) ≤ length w → neededP (capsFrom FEW) ≤ length p → Happens w p BUS-RAN
+pub buses-happen : (w p : List ℕ) → needed (capsFrom FEW) ≤ length w → neededP (capsFrom FEW) ≤ length p → Happens w p (line (start FEW) (plain 0) ∷ lined BUS-READS BUS-HEARD)
 buses-happen w p a b =
     let k = capsFrom FEW in
-    subst (λ (xs : List Line). Happens w p (line (start FEW) (plain 0) ∷ xs)) (computed (view k w p)) (story-happens FEW BUS-RUN w p (can-start k w p refl a b))
+    subst (λ (xs : List Line). Happens w p (line (start FEW) (plain 0) ∷ xs)) (computed (view k w p)) (story-happens FEW BUS-READS w p (can-start k w p refl a b))
 
--- THE THEOREM: and its reckoning, whatever was reckoned before the start, is this ledger
+-- THE THEOREM: and the reckoning before those reads, whatever was reckoned before the start, is this ledger
 pub buses-reckoned : (l : Ledger) → reckon l BUS-RAN ≡ BUS-LEFT
 unfolding aired busMade butFirst bySlot endReaders evicted issued joined some those L.cleared L.between departed endLinks endMonitors endTimers entered fires firings gone
     notices partnerNotes reckon watcherNotes wornBy
