@@ -5,9 +5,9 @@
  * payload area of bytes. Both come first in every call, each as a pointer and a length (in words, in
  * bytes). The runtime keeps no other state, allocates nothing and never blocks.
  *
- * No two slices of one call may overlap: table, payload area and, in fg_notify, the payload. That is
- * the caller's duty; so is that every pointer is good for its length, and not null even where the
- * length is 0.
+ * No two slices of one call may overlap: table, payload area and, in fg_notify and fg_publish, the
+ * payload, in fg_read the slice that is written to. That is the caller's duty; so is that every pointer
+ * is good for its length, and not null even where the length is 0.
  *
  * Every call but fg_start first tests that the buffers are sound and answers FG_UNSOUND if not. Tests
  * go in the order FG_UNSOUND, FG_NOT_NOW, FG_MALFORMED, FG_UNKNOWN, FG_NO_ROOM. With these five, the
@@ -29,9 +29,9 @@ enum fg_number {
     FG_DONE = 0,      /* done */
     FG_MALFORMED = 1, /* malformed argument */
     FG_NO_ROOM = 2,   /* no room */
-    FG_UNKNOWN = 3,   /* no such actor, timer, monitor or link, or not the caller's */
+    FG_UNKNOWN = 3,   /* no such actor, timer, monitor, link or bus, or not the caller's, or not subscribed */
     FG_NOT_NOW = 4,   /* no actor is running, or, for fg_next, one is */
-    FG_NOTHING = 5,   /* receive with wait 0 found nothing; the hand is released */
+    FG_NOTHING = 5,   /* receive with wait 0 found nothing, and the hand is released; read: nothing new */
     FG_WAITING = 6,   /* receive: the caller now waits, its hand is released; next: idle */
     FG_UNSOUND = 7    /* the buffers are not sound or too short */
 };
@@ -58,6 +58,13 @@ enum fg_number {
 #define FG_MAX_CLOCK (UINT64_C(1) << 62)      /* microseconds */
 #define FG_MAX_STEP UINT64_C(4294967295)      /* microseconds: delays, intervals, advances */
 #define FG_MAX_WAIT INT64_C(2147483647)       /* milliseconds */
+
+/* Buses, which are numbered from 0; what one can have, from 1 each; when what was published on it ends, from 0. */
+#define FG_MAX_BUSES 32
+#define FG_MAX_BUS_ENTRIES 16
+#define FG_MAX_SUBSCRIBERS 32
+#define FG_MAX_READS 32
+#define FG_MAX_BUS_AGE 2147483647             /* milliseconds */
 
 /* A filter of fg_receive that takes any sender, class, tag. */
 #define FG_ANY_SENDER UINT64_C(4294967295)
@@ -97,7 +104,7 @@ enum fg_number {
 /* How long the two buffers must be; they may be longer, and what is past the needed part is never changed.
  * As constants, for static arrays: */
 #define FG_WORDS(actors, mailboxes, data, links, monitors, timers) \
-    (24 + 10 * (actors) + 3 * (mailboxes) + 2 * (data) + 2 * (links) + 3 * (monitors) + 4 * (timers))
+    (1176 + 10 * (actors) + 3 * (mailboxes) + 6 * (data) + 2 * (links) + 3 * (monitors) + 4 * (timers))
 #define FG_BYTES(data) (FG_ENTRY_BYTES * (data))
 
 /* And as functions. Words of the table for capacities in range: */
@@ -122,6 +129,7 @@ struct fg_ended { uint64_t no, sent, lost; };
 struct fg_advanced { uint64_t no, fired; };
 /* Free counts: actors, mailbox entries, data entries, links, monitors, timers. */
 struct fg_counts { uint64_t no, free[6]; };
+struct fg_copied { uint64_t no, length; };
 struct fg_tick_record { uint64_t no; uint32_t id; };
 struct fg_exit_record { uint64_t no; uint32_t actor; uint16_t reason; uint32_t monitor; };
 /* The letters of a word, `len` of them, no zero at the end. */
@@ -178,11 +186,30 @@ uint64_t fg_demonitor(FG_BUFFERS, uint64_t monitor);
 /* Ends the running actor; answers how many exit notices were sent and how many were lost for want of room. */
 struct fg_ended fg_exit(FG_BUFFERS, uint64_t reason);
 
-/* Moves the clock, fires due timers, then ends waits that are over. Needs no running actor. */
+/* Moves the clock, fires due timers, then ends waits that are over, then what has stood on its bus for its age. Needs no
+ * running actor. */
 struct fg_advanced fg_advance(FG_BUFFERS, uint64_t us);
 
 /* Answers how many entries of each pool are free. Needs no running actor. */
 struct fg_counts fg_report(FG_BUFFERS);
+
+/* Makes a bus for so many entries and so many subscribers, and answers its number, which stands as `id`. An entry ends after so
+ * many reads, and after so many milliseconds; 0 for neither. Needs no running actor. */
+struct fg_made fg_bus(FG_BUFFERS, uint64_t entries, uint64_t subscribers, uint64_t reads, uint64_t age_ms);
+
+/* Publishes 0 to 252 bytes on a bus, for those who are subscribed to it now. They take a data entry. A full bus first ends its
+ * oldest entry, read or not, and so never lacks room. */
+uint64_t fg_publish(FG_BUFFERS, uint64_t bus, const uint8_t *payload, size_t payload_len);
+
+/* Subscribes the caller to a bus: it can read what is published from now on. FG_MALFORMED where it is subscribed already. */
+uint64_t fg_subscribe(FG_BUFFERS, uint64_t bus);
+
+/* Takes the caller's subscription back. */
+uint64_t fg_unsubscribe(FG_BUFFERS, uint64_t bus);
+
+/* Copies the oldest entry of a bus that the caller has not read yet to the front of `out`, and answers its length. Never waits:
+ * FG_NOTHING where there is nothing new. FG_MALFORMED where `out` is too short, and the entry stays unread. */
+struct fg_copied fg_read(FG_BUFFERS, uint64_t bus, uint8_t *out, size_t out_len);
 
 /* Writes the record of a tick, 8 bytes; FG_MALFORMED where the slice is shorter. */
 uint64_t fg_write_tick(uint8_t *out, size_t len, uint32_t id);
@@ -242,8 +269,20 @@ size_t fg_trace_advance(FG_RECORD, uint64_t us, uint64_t no, uint64_t fired);
 size_t fg_trace_report(FG_RECORD, uint64_t no, uint64_t actors, uint64_t mailboxes, uint64_t data,
                        uint64_t links, uint64_t monitors, uint64_t timers);
 
+size_t fg_trace_bus(FG_RECORD, uint64_t entries, uint64_t subscribers, uint64_t reads, uint64_t age_ms, uint64_t no,
+                    uint64_t id);
+
+/* As for fg_trace_notify, of a longer payload there is only its length. */
+size_t fg_trace_publish(FG_RECORD, uint64_t bus, const uint8_t *payload, size_t payload_len, uint64_t no);
+
+size_t fg_trace_subscribe(FG_RECORD, uint64_t bus, uint64_t no);
+size_t fg_trace_unsubscribe(FG_RECORD, uint64_t bus, uint64_t no);
+
+/* `room` is the length of the slice that was lent; then the number answered, and the bytes that were copied to it. */
+size_t fg_trace_read(FG_RECORD, uint64_t bus, uint64_t room, uint64_t no, const uint8_t *bytes, size_t bytes_len);
+
 /* Judges record number n of a trace, counted from 0: true where it is right on these buffers, and its call is
- * then made on them. Where it is not, nothing after it can be judged, and the buffers may have changed. 4,096
+ * then made on them. Where it is not, nothing after it can be judged, and the buffers may have changed. 6,144
  * words and 65,536 bytes are long enough for every trace. */
 bool fg_replay(FG_BUFFERS, uint64_t n, const uint8_t *record, size_t record_len);
 

@@ -159,6 +159,42 @@ static inline struct fg_counts fg_traced_report(FG_TRACED)
     return report;
 }
 
+static inline struct fg_made fg_traced_bus(FG_TRACED, uint64_t entries, uint64_t subscribers, uint64_t reads,
+                                           uint64_t age_ms)
+{
+    struct fg_made made = fg_bus(FG_LENT, entries, subscribers, reads, age_ms);
+    FG_HAND_ON(fg_trace_bus, entries, subscribers, reads, age_ms, made.no, made.id);
+    return made;
+}
+
+static inline uint64_t fg_traced_publish(FG_TRACED, uint64_t bus, const uint8_t *payload, size_t payload_len)
+{
+    uint64_t no = fg_publish(FG_LENT, bus, payload, payload_len);
+    FG_HAND_ON(fg_trace_publish, bus, payload, payload_len, no);
+    return no;
+}
+
+static inline uint64_t fg_traced_subscribe(FG_TRACED, uint64_t bus)
+{
+    uint64_t no = fg_subscribe(FG_LENT, bus);
+    FG_HAND_ON(fg_trace_subscribe, bus, no);
+    return no;
+}
+
+static inline uint64_t fg_traced_unsubscribe(FG_TRACED, uint64_t bus)
+{
+    uint64_t no = fg_unsubscribe(FG_LENT, bus);
+    FG_HAND_ON(fg_trace_unsubscribe, bus, no);
+    return no;
+}
+
+static inline struct fg_copied fg_traced_read(FG_TRACED, uint64_t bus, uint8_t *out, size_t out_len)
+{
+    struct fg_copied copied = fg_read(FG_LENT, bus, out, out_len);
+    FG_HAND_ON(fg_trace_read, bus, out_len, copied.no, out, (size_t)copied.length);
+    return copied;
+}
+
 #ifdef __cplusplus
 }
 #endif

@@ -1,43 +1,19 @@
 /*
  * A school-lab box in plain C: a heater, a pump and a watchdog, each a track of the runtime.
  *
- * The tracks are plain functions that the small scheduler at the end calls when it is their turn; each
- * goes on until it waits or ends. The box has no real clock: it sleeps by moving the runtime's clock, so
- * that what it prints is always the same.
+ * box.h has what it shares with the other box of this folder: how the tracks take turns, and how the box sleeps.
  *
  * The run shows the accident that ids with ages prevent: the watchdog sends a stop message to a heater
  * that has already ended, while the next heater works in the same slot. The message is refused.
  *
  * With a file's name as its argument it also writes a trace of its calls there, for ./replay and ./autopsy.
  */
-#include <inttypes.h>
-#include <stdio.h>
-#include <stdlib.h>
-
-#include "foamgangway_trace.h"
-
 enum { ACTORS = 4, MAILBOXES = 16, DATA = 16, LINKS = 4, MONITORS = 4, TIMERS = 4 };
+
+#include "box.h"
+
 enum { TAG_READING = 1, TAG_STOP = 2 };
 enum { TICK_US = 100000, PUMP_FAILS_US = 350000, PATIENCE_MS = 250 };
-
-static uint64_t table[FG_WORDS(ACTORS, MAILBOXES, DATA, LINKS, MONITORS, TIMERS)];
-static uint8_t area[FG_BYTES(DATA)];
-
-/* Where the records of the calls go: nowhere, until a file is opened. */
-static struct fg_tracer tracer;
-
-/* Both buffers, as every call takes them, and what every traced call takes. */
-#define BUFFERS table, sizeof table / sizeof table[0], area, sizeof area
-#define BOX &tracer, BUFFERS
-
-struct track {
-    const char *name;
-    void (*turn)(struct track *self, uint64_t why);
-    uint64_t id;
-    uint64_t timer;
-    int begun;
-    unsigned degrees;
-};
 
 static void heater_turn(struct track *self, uint64_t why);
 static void pump_turn(struct track *self, uint64_t why);
@@ -46,51 +22,6 @@ static void watchdog_turn(struct track *self, uint64_t why);
 static struct track watchdog = { .name = "watchdog", .turn = watchdog_turn };
 static struct track heater = { .name = "heater", .turn = heater_turn };
 static struct track pump = { .name = "pump", .turn = pump_turn };
-static struct track *const tracks[] = { &watchdog, &heater, &pump };
-
-static uint64_t now_us;
-
-/* Prints the time in milliseconds and the track that speaks. */
-static void say(const struct track *who)
-{
-    printf("%5" PRIu64 " %s: ", now_us / 1000, who->name);
-}
-
-/* Stops the box where a call that cannot be refused here is. */
-static void expect(uint64_t no, const char *call)
-{
-    if (no == FG_DONE)
-        return;
-    printf("%s answers %" PRIu64 "\n", call, no);
-    exit(EXIT_FAILURE);
-}
-
-/* Puts a track into the runtime, at its priority. */
-static void begin(struct track *track, uint64_t priority)
-{
-    struct fg_made made = fg_traced_spawn(BOX, priority);
-    expect(made.no, "spawn");
-    track->id = made.id;
-    track->begun = 0;
-    track->degrees = 20;
-    say(track);
-    printf("spawned as %" PRIu64 "\n", made.id);
-}
-
-/* Ends the running track and says who was told. */
-static void end(struct track *self, uint64_t reason)
-{
-    struct fg_ended ended = fg_traced_exit(BOX, reason);
-    expect(ended.no, "exit");
-    say(self);
-    printf("ended, notices sent %" PRIu64 ", lost %" PRIu64 "\n", ended.sent, ended.lost);
-}
-
-/* Takes any message; FG_WAITING means that the track now waits for the next. */
-static struct fg_received receive_any(void)
-{
-    return fg_traced_receive(BOX, FG_ANY_SENDER, FG_ANY_CLASS, FG_ANY_TAG, FG_WAIT_FOREVER);
-}
 
 /* The payload in hand, where it lies in the area. */
 static const uint8_t *payload_in_hand(size_t *len)
@@ -292,86 +223,16 @@ static void watchdog_turn(struct track *self, uint64_t why)
     }
 }
 
-/* ---- The scheduler. ---- */
-
-static struct track *track_of(uint64_t id)
-{
-    for (size_t i = 0; i < sizeof tracks / sizeof tracks[0]; i++)
-        if (tracks[i]->id == id)
-            return tracks[i];
-    printf("no track has id %" PRIu64 "\n", id);
-    exit(EXIT_FAILURE);
-}
-
-/* A board would sleep here. */
-static void sleep_us(int64_t us)
-{
-    struct fg_advanced advanced = fg_traced_advance(BOX, (uint64_t)us);
-    expect(advanced.no, "advance");
-    now_us += (uint64_t)us;
-}
-
-static void run(void)
-{
-    for (;;) {
-        struct fg_turn turn = fg_traced_next(BOX);
-        if (turn.no == FG_WAITING && turn.sleep < 0)
-            return;
-        if (turn.no == FG_WAITING) {
-            sleep_us(turn.sleep);
-            continue;
-        }
-        expect(turn.no, "next");
-        struct track *track = track_of(turn.id);
-        track->turn(track, turn.reason);
-    }
-}
-
-static void print_free(void)
-{
-    struct fg_counts report = fg_traced_report(BOX);
-    expect(report.no, "report");
-    printf("free:");
-    for (int i = 0; i < 6; i++)
-        printf(" %" PRIu64, report.free[i]);
-    printf("\n");
-}
-
-/* ---- The trace. ---- */
-
-/* A board would write to flash here. Each record is written at once, so that a crash loses none. */
-static void store(void *file, const uint8_t *record, size_t len)
-{
-    if (fwrite(record, 1, len, file) == len && fflush(file) == 0)
-        return;
-    perror("the trace");
-    exit(EXIT_FAILURE);
-}
-
-static void open_trace(const char *name)
-{
-    FILE *file = fopen(name, "wb");
-    if (file == NULL) {
-        perror(name);
-        exit(EXIT_FAILURE);
-    }
-    tracer = (struct fg_tracer){ .sink = store, .ctx = file };
-}
-
 int main(int count, char **words)
 {
-    if (count > 1)
-        open_trace(words[1]);
     if (sizeof table / sizeof table[0] < fg_words_needed(ACTORS, MAILBOXES, DATA, LINKS, MONITORS, TIMERS) ||
         sizeof area < fg_bytes_needed(DATA))
         return EXIT_FAILURE;
     printf("before the start report answers %" PRIu64 "\n", fg_report(BUFFERS).no);
-    expect(fg_traced_start(BOX, ACTORS, MAILBOXES, DATA, LINKS, MONITORS, TIMERS), "start");
+    start_box(count, words);
     begin(&watchdog, 0);
     begin(&heater, 1);
     begin(&pump, 1);
-    run();
-    printf("%5" PRIu64 " box: nothing is left to wait for\n", now_us / 1000);
-    print_free();
+    run_box();
     return EXIT_SUCCESS;
 }

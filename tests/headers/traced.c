@@ -73,6 +73,25 @@ static void time_passes(struct fg_tracer tracer)
     fg_traced_report(BOX);
 }
 
+static void thermometer(struct fg_tracer tracer)
+{
+    static const uint8_t degrees[] = { '2', '1', '.', '5' };
+    uint8_t slice[4];
+    fg_traced_bus(BOX, 0, 2, 0, 0);
+    fg_traced_bus(BOX, 2, 2, 0, 1);
+    fg_traced_subscribe(BOX, 0);
+    fg_traced_next(BOX);
+    fg_traced_subscribe(BOX, 0);
+    fg_traced_publish(BOX, 0, degrees, sizeof degrees);
+    fg_traced_read(BOX, 0, slice, 3);
+    fg_traced_read(BOX, 0, slice, sizeof slice);
+    fg_traced_read(BOX, 0, slice, sizeof slice);
+    fg_traced_unsubscribe(BOX, 0);
+    fg_traced_unsubscribe(BOX, 0);
+    fg_traced_advance(BOX, 1000);
+    fg_traced_report(BOX);
+}
+
 int main(void)
 {
     struct fg_tracer tracer = { print, stdout };
@@ -80,5 +99,6 @@ int main(void)
     first_runs(tracer);
     second_runs(tracer);
     time_passes(tracer);
+    thermometer(tracer);
     return 0;
 }

@@ -45,7 +45,7 @@ fn set_byte(p: &mut [u8], i: usize, x: u8) {
 
 // Word i of column c becomes x.
 pub fn word(n: u64, name: &[u8], c: usize, i: usize, x: u64) -> u64 {
-    let mut t = [0u64; 256];
+    let mut t = [0u64; 1536];
     let mut p = [0u8; 2048];
     bring(&mut t, &mut p);
     set(&mut t, word_at(c, i), x);
@@ -54,7 +54,7 @@ pub fn word(n: u64, name: &[u8], c: usize, i: usize, x: u64) -> u64 {
 
 // Byte j of data entry e becomes x.
 pub fn byte(n: u64, name: &[u8], e: usize, j: usize, x: u8) -> u64 {
-    let mut t = [0u64; 256];
+    let mut t = [0u64; 1536];
     let mut p = [0u8; 2048];
     bring(&mut t, &mut p);
     set_byte(&mut p, byte_at(e, j), x);
@@ -75,7 +75,7 @@ pub fn becomes(column: usize, entry: usize, to: u64) -> Change {
 
 // Two words become others.
 pub fn two(n: u64, name: &[u8], a: Change, b: Change) -> u64 {
-    let mut t = [0u64; 256];
+    let mut t = [0u64; 1536];
     let mut p = [0u8; 2048];
     bring(&mut t, &mut p);
     set(&mut t, word_at(a.column, a.entry), a.to);

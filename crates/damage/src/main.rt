@@ -45,7 +45,7 @@ fn start_largest(t: &mut [u64], p: &mut [u8]) {
 
 // The largest runtime.
 fn largest() {
-    let mut t = [0u64; 4096];
+    let mut t = [0u64; 6144];
     let mut p = [0u8; 65536];
     start_largest(&mut t, &mut p);
     state(&t, &p, b"largest");
@@ -53,7 +53,7 @@ fn largest() {
 
 // The largest runtime with column c of its head broken.
 fn larger(n: u64, name: &[u8], c: usize, x: u64) -> u64 {
-    let mut t = [0u64; 4096];
+    let mut t = [0u64; 6144];
     let mut p = [0u8; 65536];
     start_largest(&mut t, &mut p);
     set(&mut t, word_at(c, 0), x);
@@ -95,7 +95,7 @@ fn tell_in(t: &mut [u64], p: &mut [u8], m: usize, n: u64, name: &[u8]) -> u64 {
 
 // The smallest runtime, in buffers of just the needed lengths.
 fn smallest() {
-    let mut t = [0u64; 64];
+    let mut t = [0u64; 1280];
     let mut p = [0u8; 256];
     start_in(&mut t, &mut p, least());
     state_in(&t, &p, least(), b"smallest");
@@ -103,7 +103,7 @@ fn smallest() {
 
 // The smallest runtime with column c of its head broken.
 fn smaller(n: u64, name: &[u8], c: usize, x: u64) -> u64 {
-    let mut t = [0u64; 64];
+    let mut t = [0u64; 1280];
     let mut p = [0u8; 512];
     fg_start(&mut t, &mut p, 1, 1, 1, 0, 0, 0);
     set(&mut t, word_at(c, 0), x);
@@ -131,7 +131,7 @@ fn by_hand(t: &mut [u64]) {
 
 // In just the needed words and bytes it is sound.
 fn enough() {
-    let mut t = [0u64; 64];
+    let mut t = [0u64; 1280];
     let p = [0u8; 256];
     by_hand(&mut t);
     state_in(&t, &p, least(), b"smallest, written by hand,");
@@ -147,7 +147,7 @@ fn less(n: usize) -> usize {
 
 // With one word fewer it is refused.
 fn short_table(n: u64) -> u64 {
-    let mut t = [0u64; 64];
+    let mut t = [0u64; 1280];
     let mut p = [0u8; 256];
     by_hand(&mut t);
     tell_in(&mut t, &mut p, less(least()), n, b"table one word short")
@@ -155,7 +155,7 @@ fn short_table(n: u64) -> u64 {
 
 // With one byte fewer it is refused.
 fn short_area(n: u64) -> u64 {
-    let mut t = [0u64; 64];
+    let mut t = [0u64; 1280];
     let mut p = [0u8; 255];
     by_hand(&mut t);
     tell_in(&mut t, &mut p, least(), n, b"payload area one byte short")
@@ -182,6 +182,11 @@ fn broken(m: u64) -> u64 {
     n = checks::links(n);
     n = checks::monitors(n);
     n = checks::timers(n);
+    n = checks::buses(n);
+    n = checks::seats(n);
+    n = checks::values(n);
+    n = checks::row(n);
+    n = checks::public(n);
     n
 }
 

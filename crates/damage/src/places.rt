@@ -10,7 +10,7 @@ pub const SMALL_ACTORS: usize = 5;
 
 pub const SMALL_MAILS: usize = 5;
 
-pub const SMALL_DATAS: usize = 6;
+pub const SMALL_DATAS: usize = 8;
 
 pub const SMALL_LINKS: usize = 3;
 

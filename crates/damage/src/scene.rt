@@ -6,14 +6,18 @@ use crate::places::SMALL_MAILS;
 use crate::places::SMALL_MONITORS;
 use crate::places::SMALL_TIMERS;
 use runtime::host::fg_advance;
+use runtime::host::fg_bus;
 use runtime::host::fg_every;
 use runtime::host::fg_exit;
 use runtime::host::fg_link;
 use runtime::host::fg_monitor;
 use runtime::host::fg_next;
 use runtime::host::fg_notify;
+use runtime::host::fg_publish;
+use runtime::host::fg_read;
 use runtime::host::fg_receive;
 use runtime::host::fg_spawn;
+use runtime::host::fg_subscribe;
 use runtime::host::fg_yield;
 use runtime::start::fg_start;
 use tables::limits::ANY_SENDER;
@@ -91,11 +95,24 @@ fn grown(t: &mut [u64], p: &mut [u8]) {
     ended(t, p);
 }
 
-// Data entries: 0 a notice for slot 1, 1 in its hand, 2 for slot 0, 3 for slot 2, 4 a tick for slot 1, 5 free. The mailbox
-// entries 0 to 3 hold data 0, 2, 3 and 4; slots 2 and 3 are queued. The clock is at 3,000 µs.
+// Two buses, of three entries and two seats, and of one each; 65 sits on the first one, and has read one of the two values there.
+fn aired(t: &mut [u64], p: &mut [u8]) {
+    let mut slice = [0u8; 2];
+    fg_bus(t, p, 3, 2, 0, 0);
+    fg_bus(t, p, 1, 1, 0, 0);
+    fg_subscribe(t, p, 0);
+    fg_publish(t, p, 0, b"20");
+    fg_publish(t, p, 0, b"21");
+    fg_read(t, p, 0, &mut slice);
+}
+
+// Data entries: 0 a notice for slot 1, 1 in its hand, 2 for slot 0, 3 for slot 2, 4 a tick for slot 1, 5 and 6 values of bus 0, 7
+// free. The mailbox entries 0 to 3 hold data 0, 2, 3 and 4; slots 2 and 3 are queued; slot 1 is in seat 0 of bus 0. The clock is
+// at 3,000 µs.
 pub fn bring(t: &mut [u64], p: &mut [u8]) {
     grown(t, p);
     tied(t, p);
     told(t, p);
     fg_advance(t, p, 2000);
+    aired(t, p);
 }

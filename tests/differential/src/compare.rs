@@ -97,6 +97,8 @@ fn first_difference(library: &State, model: &State) -> String {
         in_lists("link", &library.links.entries, &model.links.entries),
         in_lists("monitor slot", &library.monitors.slots, &model.monitors.slots),
         in_lists("timer slot", &library.timers.slots, &model.timers.slots),
+        in_lists("bus", &library.buses, &model.buses),
+        in_lists("published", &library.values, &model.values),
     ];
     parts.into_iter().flatten().next().unwrap_or_default()
 }

@@ -2,6 +2,7 @@
 
 use crate::layout::{self, *};
 use crate::random::Random;
+use model::buses::{Bus, Value};
 use model::limits::*;
 use model::state::{Activity, Actor, State};
 
@@ -43,11 +44,22 @@ pub fn anywhere(random: &mut Random, words: &[u64], bytes: &[u8]) -> Damage {
         _ => random.bits(),
     };
     if random.percent(75) || bytes.is_empty() {
-        let i = random.index(words.len());
+        let i = some_word(random, words.len());
         Damage { what: "any word", place: Place::Word(i), value: flip(random, words[i], 64) }
     } else {
         let i = random.index(bytes.len());
         Damage { what: "any byte", place: Place::Byte(i), value: flip(random, u64::from(bytes[i]), 8) & 255 }
+    }
+}
+
+/// A word, and seldom one of the seats, which are most of a small table.
+fn some_word(random: &mut Random, words: usize) -> usize {
+    let seats = layout::starts(&SMALLEST)[SEAT]..layout::starts(&SMALLEST)[SEAT + 1];
+    loop {
+        let i = random.index(words);
+        if !seats.contains(&i) || random.once_in(8) {
+            return i;
+        }
     }
 }
 
@@ -70,6 +82,8 @@ pub fn must_refuse(state: &State, words: &[u64], bytes: &[u8]) -> Vec<Damage> {
     table.lists();
     table.letters();
     table.data();
+    table.buses();
+    table.row_of_values();
     table.links();
     table.monitors();
     table.timers();
@@ -108,8 +122,10 @@ impl Table<'_> {
             self.word("spare word", SPARE, spare, 1);
         }
         self.running();
-        let (queued, arrived) = (self.at(QUEUED, 0), self.at(ARRIVED, 0));
-        for (what, column, count) in [("queue count", QUEUED, queued), ("arrival count", ARRIVED, arrived)] {
+        let counts =
+            [("queue count", QUEUED), ("arrival count", ARRIVED), ("value count", ISSUED), ("bus count", BUSES)];
+        for (what, column) in counts {
+            let count = self.at(column, 0);
             self.word(what, column, 0, count + 1);
             self.word(what, column, 0, count.wrapping_sub(1));
             self.word(what, column, 0, u64::MAX);
@@ -241,9 +257,120 @@ impl Table<'_> {
         for i in 0..self.caps[2] as usize {
             self.word("length above 252", LENGTH, i, 253);
             self.word("sender too large", SENDER, i, (MAX_AGE + 1) * ACTOR_FACTOR);
-            match self.state.data.get(i).cloned() {
-                None => self.free_data(i),
-                Some(message) => self.used_data(i, message.class, message.sender, message.payload.len()),
+            let value = self.state.values.iter().find(|value| value.data == i).cloned();
+            match (self.state.data.get(i).cloned(), value) {
+                (None, _) => self.free_data(i),
+                (Some(content), Some(value)) => self.value_data(i, &value, content.payload.len()),
+                (Some(message), None) => {
+                    self.used_data(i, message.class, message.sender, message.payload.len());
+                    self.no_value(i);
+                }
+            }
+        }
+    }
+
+    fn no_value(&mut self, i: usize) {
+        self.word("bus of what is no value", VALUE_BUS, i, 1);
+        self.word("readers of what is no value", READERS, i, 1);
+        self.word("readers of what is no value", READERS, i, 1 << 32);
+        self.word("time of what is no value", PUBLISHED, i, 1);
+    }
+
+    fn value_data(&mut self, i: usize, value: &Value, length: usize) {
+        self.word("value of no bus", VALUE_BUS, i, 0);
+        self.word("value of a bus that is not made", VALUE_BUS, i, self.state.buses.len() as u64 + 1);
+        self.word("value of a bus that is not made", VALUE_BUS, i, u64::MAX);
+        for bus in (0..self.state.buses.len()).filter(|&bus| bus != value.bus && self.state.is_full(bus)) {
+            self.word("one value too many", VALUE_BUS, i, bus as u64 + 1);
+        }
+        self.word("published after now", PUBLISHED, i, self.state.clock + 1);
+        self.word("sender of a value", SENDER, i, ACTOR_FACTOR);
+        for (offset, byte) in [(0, 1), (3, 0x10), (3, 0x48), (3, 0x08)] {
+            self.byte("header of a value", 256 * i + offset, byte);
+        }
+        self.bytes_past(i, length);
+        self.readers(i, &self.state.buses[value.bus]);
+    }
+
+    /// A bit of each seat in the wrong half of a value's readers, or in both.
+    fn readers(&mut self, i: usize, bus: &Bus) {
+        let word = self.at(READERS, i);
+        for seat in [0, 1, 2, 3, 15, 31] {
+            let (read, unread) = (1 << seat, 1 << (SEATS + seat));
+            match bus.seats.get(seat) {
+                Some(Some(_)) => self.word("has read it, and still may", READERS, i, word | read | unread),
+                _ => self.word("nobody may still read it", READERS, i, word & !read | unread),
+            }
+        }
+    }
+
+    fn buses(&mut self) {
+        for b in 0..MAX_BUSES {
+            self.word("entries above 16", BUS_SIZE, b, MAX_BUS_ENTRIES + 1);
+            self.word("subscribers above 32", BUS_SEATS, b, MAX_SUBSCRIBERS + 1);
+            self.word("reads above 32", BUS_READS, b, MAX_READS + 1);
+            self.word("age above its range", BUS_AGE, b, MAX_BUS_AGE + 1);
+            match self.state.buses.get(b).cloned() {
+                None => self.no_bus(b),
+                Some(bus) => self.bus(b, &bus),
+            }
+        }
+    }
+
+    fn no_bus(&mut self, b: usize) {
+        for column in [BUS_SIZE, BUS_SEATS, BUS_READS, BUS_AGE] {
+            self.word("word of a bus that is not made", column, b, 1);
+        }
+        self.word("seat of a bus that is not made", SEAT, SEATS * b, 1);
+        self.word("seat of a bus that is not made", SEAT, SEATS * b + SEATS - 1, 1);
+    }
+
+    fn bus(&mut self, b: usize, bus: &Bus) {
+        self.word("bus for no entries", BUS_SIZE, b, 0);
+        self.word("bus for no subscribers", BUS_SEATS, b, 0);
+        let values = self.state.values_of(b).len() as u64;
+        if values > 1 {
+            self.word("more values than entries", BUS_SIZE, b, values - 1);
+        }
+        if let Some(&last) = bus.taken_seats().last() {
+            self.word("seat past the subscribers", BUS_SEATS, b, last as u64);
+        }
+        for n in bus.seats.len()..SEATS {
+            self.word("seat past the subscribers", SEAT, SEATS * b + n, 1);
+        }
+        (0..bus.seats.len()).for_each(|n| self.seat(b, n, bus));
+    }
+
+    fn seat(&mut self, b: usize, n: usize, bus: &Bus) {
+        let place = SEATS * b + n;
+        self.word("subscriber past the actors", SEAT, place, self.caps[0] + 1);
+        self.word("subscriber past the actors", SEAT, place, u64::MAX);
+        if let Some(free) = self.free_actor() {
+            self.word("dead subscriber", SEAT, place, free as u64 + 1);
+        }
+        if let Some(&other) = bus.taken_seats().iter().find(|&&other| other != n) {
+            let twice = self.at(SEAT, SEATS * b + other);
+            self.word("subscriber twice", SEAT, place, twice);
+        }
+        if self.state.values.iter().any(|value| value.bus == b && value.unread.contains(&n)) {
+            self.word("nobody may still read it", SEAT, place, 0);
+        }
+    }
+
+    fn row_of_values(&mut self) {
+        let count = self.state.values.len();
+        for i in 0..self.caps[2] as usize {
+            self.word("row of values: past the entries", ISSUE, i, self.caps[2] + 1);
+            if i >= count {
+                self.word("row of values: past its count", ISSUE, i, 1);
+                continue;
+            }
+            self.word("row of values: none", ISSUE, i, 0);
+            let other = self.at(ISSUE, if i == 0 { count - 1 } else { 0 });
+            self.word("row of values: twice", ISSUE, i, other);
+            let message = self.state.letters.used().map(|(_, letter)| letter.data as u64 + 1).next();
+            if let Some(message) = message {
+                self.word("row of values: a message", ISSUE, i, message);
             }
         }
     }
@@ -251,6 +378,7 @@ impl Table<'_> {
     fn free_data(&mut self, i: usize) {
         self.word("word of a free data entry", SENDER, i, 64);
         self.word("word of a free data entry", LENGTH, i, 1);
+        self.no_value(i);
         for offset in [0, 3, 4, 100, 255] {
             self.byte("byte of a free data entry", 256 * i + offset, 1);
         }
@@ -274,6 +402,10 @@ impl Table<'_> {
         for top in [0x10, 0x18, 0x28, 0x30, 0x40, 0x50, 0xf8, 0x08] {
             self.byte("header's class or bit 27", 256 * i + 3, top);
         }
+        self.bytes_past(i, length);
+    }
+
+    fn bytes_past(&mut self, i: usize, length: usize) {
         for offset in [length, (length + 252) / 2, 251] {
             if (length..252).contains(&offset) {
                 self.byte("byte past a payload", 256 * i + 4 + offset, 1);

@@ -6,6 +6,7 @@ use model::pool::Entries;
 use model::records::header;
 use model::state::{Activity, State};
 use model::Model;
+use std::collections::BTreeSet;
 
 /// Writes the state of a model, where it has one.
 pub fn store(m: &Model, words: &mut [u64], bytes: &mut [u8]) {
@@ -26,12 +27,15 @@ fn encode(state: &State, words: &mut [u64], bytes: &mut [u8]) {
     put(RUNNING, 0, one_up(state.running()));
     put(QUEUED, 0, state.queue.len() as u64);
     put(ARRIVED, 0, state.arrivals.len() as u64);
+    put(ISSUED, 0, state.values.len() as u64);
+    put(BUSES, 0, state.buses.len() as u64);
     (0..4).for_each(|w| put(MAIL_FREE, w, free_word(&state.letters, w)));
     (0..4).for_each(|w| put(DATA_FREE, w, free_word(&state.data, w)));
     write_actors(state, &mut put);
     state.queue.iter().enumerate().for_each(|(i, slot)| put(QUEUE, i, *slot as u64));
     state.arrivals.iter().enumerate().for_each(|(i, entry)| put(ARRIVAL, i, *entry as u64));
     write_pools(state, &mut put);
+    write_buses(state, &mut put);
     for (i, message) in state.data.used() {
         put(SENDER, i, message.sender);
         put(LENGTH, i, message.payload.len() as u64);
@@ -92,5 +96,22 @@ fn write_pools(state: &State, put: &mut impl FnMut(usize, usize, u64)) {
         put(TIMER_OWNER, i, one_up(slot.held.map(|t| t.owner)));
         put(DUE, i, slot.held.map_or(0, |t| t.due));
         put(INTERVAL, i, slot.held.and_then(|t| t.interval).unwrap_or(0));
+    }
+}
+
+fn write_buses(state: &State, put: &mut impl FnMut(usize, usize, u64)) {
+    for (b, bus) in state.buses.iter().enumerate() {
+        put(BUS_SIZE, b, bus.entries);
+        put(BUS_SEATS, b, bus.seats.len() as u64);
+        put(BUS_READS, b, bus.reads);
+        put(BUS_AGE, b, bus.age);
+        bus.seats.iter().enumerate().for_each(|(n, slot)| put(SEAT, SEATS * b + n, one_up(*slot)));
+    }
+    let bits = |seats: &BTreeSet<usize>| seats.iter().map(|n| 1 << n).sum::<u64>();
+    for (i, value) in state.values.iter().enumerate() {
+        put(ISSUE, i, one_up(Some(value.data)));
+        put(VALUE_BUS, value.data, one_up(Some(value.bus)));
+        put(READERS, value.data, bits(&value.read) | bits(&value.unread) << SEATS);
+        put(PUBLISHED, value.data, value.published);
     }
 }

@@ -1,10 +1,10 @@
-//! Document 01's bench examples, through the C boundary, with the answers that the document gives.
+//! Document 01's bench examples, and those of the rules of the bus, through the C boundary, with the answers that the documents give.
 
-use crate::call::{Answer, Call};
+use crate::call::{Answer, Call, Written};
 use crate::compare::{make, Buffers, Difference};
 use crate::ffi;
 use model::limits::*;
-use model::{Advanced, Ended, ExitRead, Made, Model, Received, TickRead, Turn};
+use model::{Advanced, Copied, Ended, ExitRead, Made, Model, Received, TickRead, Turn};
 use model::{DONE, MALFORMED, NOTHING, NO_ROOM, WAITING};
 
 /// A runtime that is led through an example.
@@ -20,7 +20,7 @@ type Checked = Result<(), Difference>;
 impl Bench {
     /// From a payload area of 65,536 zero bytes and a long zero table.
     fn start(name: &'static str, caps: Capacities) -> Result<Self, Difference> {
-        let buffers = Buffers { words: vec![0; 4_096], bytes: vec![0; 65_536] };
+        let buffers = Buffers { words: vec![0; 6_144], bytes: vec![0; 65_536] };
         let mut bench = Bench { name, step: 0, buffers, model: Model::unsound() };
         bench.expect(Call::Start(caps), Answer::Number(DONE))?;
         Ok(bench)
@@ -98,6 +98,20 @@ fn notify(target: u64, tag: u64, length: usize) -> Call {
     Call::Notify(target, tag, vec![1; length])
 }
 
+fn publish(bus: u64, text: &str) -> Call {
+    Call::Publish(bus, text.as_bytes().to_vec())
+}
+
+/// A read in a slice of eight dots.
+fn read(bus: u64) -> Call {
+    Call::Read(bus, b"........".to_vec())
+}
+
+/// What is in the slice then.
+fn copied(no: u64, length: u64, slice: &str) -> Answer {
+    Answer::Written(Written { copied: Copied { no, length }, slice: slice.as_bytes().to_vec() })
+}
+
 pub fn compare_examples() -> Checked {
     ids()?;
     headers_and_tick()?;
@@ -105,7 +119,9 @@ pub fn compare_examples() -> Checked {
     notice_lost()?;
     sleeps()?;
     limits()?;
-    bench_run()
+    bench_run()?;
+    no_history()?;
+    oldest_evicted()
 }
 
 fn ids() -> Checked {
@@ -179,4 +195,34 @@ fn bench_run() -> Checked {
     bench.same("read_exit", read, ExitRead { no: DONE, actor: 64, reason: 65_533, monitor: 0 })?;
     let word = ffi::reason_word(read.reason);
     bench.same("reason word", &word.bytes[..word.len], b"crash")
+}
+
+/// Rule 1 of the bus: E1, E2 and E3 stand on it when somebody subscribes, who cannot read them; E4 it can.
+fn no_history() -> Checked {
+    let mut bench = Bench::running("a new subscriber sees nothing published before", LARGEST, 1)?;
+    bench.expect(Call::Bus(16, 32, 0, 0), made(0))?;
+    for text in ["E1", "E2", "E3"] {
+        bench.expect(publish(0, text), Answer::Number(DONE))?;
+    }
+    bench.expect(Call::Subscribe(0), Answer::Number(DONE))?;
+    bench.expect(read(0), copied(NOTHING, 0, "........"))?;
+    bench.expect(publish(0, "E4"), Answer::Number(DONE))?;
+    bench.expect(read(0), copied(DONE, 2, "E4......"))?;
+    bench.expect(read(0), copied(NOTHING, 0, "........"))
+}
+
+/// Rule 2 of the bus: E1, E2 and E3 fill it, so E4 evicts E1, which a slow subscriber has not read yet.
+fn oldest_evicted() -> Checked {
+    let mut bench = Bench::running("a full bus evicts its oldest entry", [1, 1, 3, 0, 0, 0], 1)?;
+    bench.expect(Call::Bus(3, 1, 0, 0), made(0))?;
+    bench.expect(Call::Bus(3, 1, 0, 0), made(1))?;
+    bench.expect(Call::Subscribe(0), Answer::Number(DONE))?;
+    for text in ["E1", "E2", "E3", "E4"] {
+        bench.expect(publish(0, text), Answer::Number(DONE))?;
+    }
+    bench.expect(publish(1, "E5"), Answer::Number(NO_ROOM))?;
+    for slice in ["E2......", "E3......", "E4......"] {
+        bench.expect(read(0), copied(DONE, 2, slice))?;
+    }
+    bench.expect(read(0), copied(NOTHING, 0, "........"))
 }

@@ -1,14 +1,14 @@
 //! Faults that can be put into the stand-in, one at a time (environment variable FG_FAULT), to see that
 //! the differential test finds them: the wrong runtimes that document 01 names, and errors that are easy to make.
 
-use crate::call::{Answer, Call};
+use crate::call::{Answer, Call, Written};
 use crate::layout::{self, CLOCK, DATA_FREE, SPARE};
 use model::limits::*;
 use model::state::{Activity, Reason, State};
-use model::{Advanced, Ended, Model};
+use model::{Advanced, Ended, Model, DONE};
 use std::sync::OnceLock;
 
-pub const NAMES: [&str; 26] = [
+pub const NAMES: [&str; 33] = [
     "all-unsound",
     "next-names-slot-0",
     "notify-stores-nothing",
@@ -35,6 +35,13 @@ pub const NAMES: [&str; 26] = [
     "record-keeps-long-payloads",
     "replay-looks-at-the-first-number-alone",
     "replay-begins-with-any-start",
+    "new-subscriber-sees-history",
+    "newest-is-evicted",
+    "read-not-marked",
+    "exit-keeps-subscriptions",
+    "age-has-to-be-passed",
+    "copy-a-byte-too-long",
+    "copied-bytes-not-judged",
 ];
 
 fn chosen() -> &'static str {
@@ -77,24 +84,37 @@ fn clear_free_entries(words: &[u64], bytes: &mut [u8]) {
 }
 
 /// Bends the state before a call.
-pub fn before(call: &str, state: &mut State) {
-    let clock = state.clock;
-    if is("advance-fires-all") && call == "advance" {
+pub fn before(call: &Call, state: &mut State) {
+    let (name, clock) = (call.name(), state.clock);
+    if is("advance-fires-all") && name == "advance" {
         state.timers.slots.iter_mut().filter_map(|s| s.held.as_mut()).for_each(|t| t.due = clock);
     }
-    if is("worn-slot-taken") && call == "spawn" {
+    if is("worn-slot-taken") && name == "spawn" {
         let worn = state.actors.slots.iter_mut().find(|s| s.held.is_none() && s.age == MAX_AGE);
         worn.into_iter().for_each(|s| s.age -= 1);
     }
-    if is("next-names-slot-0") && call == "next" {
+    if is("next-names-slot-0") && name == "next" {
         if let Some(place) = state.queue.iter().position(|&slot| slot == 0) {
             state.queue.remove(place);
             state.queue.insert(0, 0);
             state.actors.get_mut(0).expect("queued actors live").priority = 0;
         }
     }
-    if is("notices-before-clearing") && call == "exit" {
+    if is("notices-before-clearing") && name == "exit" {
         keep_room_taken(state);
+    }
+    match call {
+        Call::Publish(bus, _) if is("newest-is-evicted") => newest_first(state, *bus),
+        _ => {}
+    }
+}
+
+/// Puts a full bus's newest value before its others, so that it is the one that is evicted.
+fn newest_first(state: &mut State, bus: u64) {
+    let Some(bus) = state.find_bus(bus) else { return };
+    if let (true, Some(&newest)) = (state.is_full(bus), state.values_of(bus).last()) {
+        let value = state.values.remove(newest);
+        state.values.insert(0, value);
     }
 }
 
@@ -129,6 +149,11 @@ pub fn answer(answer: Answer) -> Answer {
         Answer::Advanced(advanced) if is("fired-invented") && advanced.fired > 1 => {
             Answer::Advanced(Advanced { fired: advanced.fired + 1, ..advanced })
         }
+        Answer::Written(mut written) if is("copy-a-byte-too-long") && written.copied.no == DONE => {
+            let Written { copied, slice } = &mut written;
+            slice.iter_mut().skip(copied.length as usize).take(1).for_each(|byte| *byte = 0);
+            Answer::Written(written)
+        }
         answer => answer,
     }
 }
@@ -149,14 +174,19 @@ fn free_room(state: &mut State) {
     }
     let mut owned: Vec<usize> = state.letters.used().map(|(_, l)| l.data).collect();
     owned.extend(state.actors.live().filter_map(|(_, a)| a.hand));
+    owned.extend(state.values.iter().map(|value| value.data));
     for entry in (0..state.data.entries.len()).filter(|e| !owned.contains(e)) {
         state.data.release(entry);
     }
 }
 
 /// Bends the state after a call that was not refused.
-pub fn after(call: &str, old: &State, new: &mut State) {
-    match call {
+pub fn after(call: &Call, old: &State, new: &mut State) {
+    match call.name() {
+        "subscribe" if is("new-subscriber-sees-history") => show_history(old, new),
+        "read" if is("read-not-marked") => *new = old.clone(),
+        "exit" if is("exit-keeps-subscriptions") => new.buses = old.buses.clone(),
+        "advance" if is("age-has-to-be-passed") => keep_just_aged(old, new),
         "notify" if is("notify-stores-nothing") => *new = old.clone(),
         "exit" if is("exit-keeps-timers") => new.timers = old.timers.clone(),
         "exit" if is("notices-before-clearing") => free_room(new),
@@ -165,6 +195,23 @@ pub fn after(call: &str, old: &State, new: &mut State) {
         "advance" if is("due-from-the-old-due-time") => count_from_old_due(old, new),
         "spawn" if is("age-not-raised") => lower_new_ages(old, new),
         _ => {}
+    }
+}
+
+/// Whoever is new on a bus may read all that stands there.
+fn show_history(old: &State, new: &mut State) {
+    for value in &mut new.values {
+        let (before, now) = (old.buses[value.bus].taken_seats(), new.buses[value.bus].taken_seats());
+        value.unread.extend(now.difference(&before).filter(|seat| !value.read.contains(seat)));
+    }
+}
+
+/// Puts back what was published just as long ago as its bus keeps it.
+fn keep_just_aged(old: &State, new: &mut State) {
+    for place in (0..old.values.len()).filter(|&place| old.end_of_value(place) == Some(new.clock)) {
+        let value = old.values[place].clone();
+        new.data.entries[value.data] = old.data.entries[value.data].clone();
+        new.values.insert(0, value);
     }
 }
 

@@ -4,14 +4,15 @@
 use crate::calls::calls;
 use crate::writers::{recorded, writers};
 use model::trace::{Field, Record};
-use model::{Advanced, Ended, ExitRead, Made, ReasonWord, Received, Report, Shown, TickRead, Turn};
+use model::{Advanced, Copied, Ended, ExitRead, Made, ReasonWord, Received, Report, Shown, TickRead, Turn};
 
 /// Declares the functions of the calls in C, and makes the safe function of each: pointer and length of both buffers, then its numbers,
-/// then pointer and length of its payload where it has one.
+/// then pointer and length of its payload, or of the slice that it writes to, where it has one.
 macro_rules! on_buffers {
     (
         numbers { $($call:ident $(($($arg:ident: $ty:ty),*))? = $c:ident, $method:ident -> $answer:ty, $chances:expr, $chosen:expr;)* }
         payloads { $($sent:ident($($with:ident: $kind:ty),*) = $sent_c:ident, $sent_method:ident -> $sent_answer:ty, $sent_chances:expr, $sent_chosen:expr;)* }
+        slices { $($lent:ident($($by:ident: $sort:ty),*) = $lent_c:ident, $lent_method:ident -> $lent_answer:ty, $lent_chances:expr, $lent_chosen:expr;)* }
     ) => {
         mod raw {
             use super::*;
@@ -21,6 +22,9 @@ macro_rules! on_buffers {
                 $(pub fn $sent_c(
                     t: *mut u64, t_len: usize, p: *mut u8, p_len: usize, $($with: $kind,)* payload: *const u8, payload_len: usize,
                 ) -> $sent_answer;)*
+                $(pub fn $lent_c(
+                    t: *mut u64, t_len: usize, p: *mut u8, p_len: usize, $($by: $sort,)* out: *mut u8, out_len: usize,
+                ) -> $lent_answer;)*
             }
         }
 
@@ -36,6 +40,15 @@ macro_rules! on_buffers {
                 // SAFETY: as above; the payload is a third live slice.
                 unsafe {
                     raw::$sent_c(t.as_mut_ptr(), t.len(), p.as_mut_ptr(), p.len(), $($with,)* payload.as_ptr(), payload.len())
+                }
+            }
+        )*
+
+        $(
+            pub fn $lent_method(t: &mut [u64], p: &mut [u8], $($by: $sort,)* out: &mut [u8]) -> $lent_answer {
+                // SAFETY: as above; what is written to is a third live slice.
+                unsafe {
+                    raw::$lent_c(t.as_mut_ptr(), t.len(), p.as_mut_ptr(), p.len(), $($by,)* out.as_mut_ptr(), out.len())
                 }
             }
         )*

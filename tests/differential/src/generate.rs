@@ -37,7 +37,8 @@ pub struct Mood {
 
 /// The moods, the columns of the table. Mixed: a bit of everything. Full: messages until the pools are full. Flow: messages that come and go.
 /// Time: timers and deadlines. Ties: many links, monitors and ends. Lives: many short lives. More: everything is made and nothing ends.
-const MOODS: usize = 7;
+/// Buses: much is published and read.
+const MOODS: usize = 8;
 
 /// How often a call is made in each mood, and how.
 struct Chance {
@@ -50,10 +51,12 @@ macro_rules! chances {
     (
         numbers { $($call:ident $(($($arg:ident: $ty:ty),*))? = $c:ident, $method:ident -> $answer:ty, $weights:expr, $choose:expr;)* }
         payloads { $($sent:ident($($with:ident: $kind:ty),*) = $sent_c:ident, $sent_method:ident -> $sent_answer:ty, $sent_weights:expr, $sent_choose:expr;)* }
+        slices { $($lent:ident($($by:ident: $sort:ty),*) = $lent_c:ident, $lent_method:ident -> $lent_answer:ty, $lent_weights:expr, $lent_choose:expr;)* }
     ) => {
         const CHANCES: &[Chance] = &[
             $(Chance { name: stringify!($c), weights: $weights, choose: $choose },)*
             $(Chance { name: stringify!($sent_c), weights: $sent_weights, choose: $sent_choose },)*
+            $(Chance { name: stringify!($lent_c), weights: $lent_weights, choose: $lent_choose },)*
         ];
     };
 }
@@ -236,12 +239,94 @@ impl Generator<'_> {
                 return Call::Notify(target, tag, self.random.bytes(length));
             }
         }
+        Call::Notify(self.actor(), self.tag(), self.payload())
+    }
+
+    fn payload(&mut self) -> Vec<u8> {
         let length = if self.odd() {
             self.random.pick(&[0, 251, 252, 253, 256, 257, 300, 1_000])
         } else {
             self.random.between(0, self.mood.payload) as usize
         };
-        Call::Notify(self.actor(), self.tag(), self.random.bytes(length))
+        self.random.bytes(length)
+    }
+
+    fn new_bus(&mut self) -> Call {
+        let age = self.random.pick(&[0, 0, 0, 0, 1, 2, 5, 100]);
+        let mut settings = [self.random.between(1, 4), self.random.between(1, 5), self.random.below(4), age];
+        if self.random.once_in(4) {
+            settings = [MAX_BUS_ENTRIES, MAX_SUBSCRIBERS, MAX_READS, MAX_BUS_AGE];
+        }
+        if self.odd() {
+            let setting = self.random.index(4);
+            settings[setting] = self.random.pick(&[0, 1, 16, 17, 32, 33, 1 << 31, 1 << 32, 1 << 63, u64::MAX]);
+        }
+        let [entries, subscribers, reads, age] = settings;
+        Call::Bus(entries, subscribers, reads, age)
+    }
+
+    /// A bus that was made, one of the first in most cases, or any number.
+    fn bus(&mut self) -> u64 {
+        let made = self.state.map_or(0, |state| state.buses.len() as u64);
+        if made == 0 || self.odd() {
+            return self.random.pick(&[0, 1, made, made + 1, 31, 32, 33, 1 << 32, 1 << 59, u64::MAX]);
+        }
+        let among = if self.random.percent(70) { made.min(3) } else { made };
+        self.random.below(among)
+    }
+
+    /// A bus to which the running actor is subscribed, in most cases.
+    fn some_bus(&mut self) -> u64 {
+        if self.random.percent(20) {
+            return self.bus();
+        }
+        let own = self.own_buses();
+        self.random.pick_some(&own).unwrap_or_else(|| self.bus())
+    }
+
+    fn own_buses(&self) -> Vec<u64> {
+        let Some(state) = self.state else { return Vec::new() };
+        let Some(me) = state.running() else { return Vec::new() };
+        (0..state.buses.len()).filter(|&bus| state.buses[bus].seat_of(me).is_some()).map(|bus| bus as u64).collect()
+    }
+
+    /// On a bus with a subscriber, in half the cases.
+    fn publish(&mut self) -> Call {
+        let heard = self.state.map_or(Vec::new(), |state| {
+            (0..state.buses.len() as u64).filter(|&bus| !state.buses[bus as usize].taken_seats().is_empty()).collect()
+        });
+        let bus = self.half_of(heard).unwrap_or_else(|| self.bus());
+        Call::Publish(bus, self.payload())
+    }
+
+    /// A bus on which there is something new for the running actor, in most cases.
+    fn bus_to_read(&mut self) -> u64 {
+        let mut new = self.own_buses();
+        new.retain(|&bus| self.length_of_unread(bus).is_some());
+        if self.random.percent(20) {
+            new.clear();
+        }
+        self.random.pick_some(&new).unwrap_or_else(|| self.some_bus())
+    }
+
+    /// With a slice that is long enough in most cases, or just as long as what is read, or a byte shorter. Who reads has to subscribe first.
+    fn read(&mut self) -> Call {
+        if self.own_buses().is_empty() && self.random.percent(70) {
+            return Call::Subscribe(self.bus());
+        }
+        let bus = self.bus_to_read();
+        let length = match self.length_of_unread(bus) {
+            Some(length) if self.random.percent(40) => (length + self.random.index(3)).saturating_sub(1),
+            _ => self.random.pick(&[0, 1, 20, 251, 252, 252, 252, 253, 300]),
+        };
+        Call::Read(bus, vec![0xA5; length])
+    }
+
+    fn length_of_unread(&self, bus: u64) -> Option<usize> {
+        let state = self.state?;
+        let (me, bus) = (state.running()?, state.find_bus(bus)?);
+        let place = state.oldest_unread(bus, state.buses[bus].seat_of(me)?)?;
+        Some(state.payload(place).len())
     }
 
     fn receive(&mut self) -> Call {
@@ -310,7 +395,7 @@ impl Generator<'_> {
         }
     }
 
-    /// The time to some deadline or due time.
+    /// The time to some deadline or due time, or to the end of what was published.
     fn time_ahead(&mut self) -> Option<u64> {
         let state = self.state?;
         let mut times: Vec<u64> = state.timers.live().map(|(_, t)| t.due).collect();
@@ -318,6 +403,7 @@ impl Generator<'_> {
             Activity::Waiting { deadline, .. } => deadline,
             _ => None,
         }));
+        times.extend((0..state.values.len()).filter_map(|place| state.end_of_value(place)));
         Some(self.random.pick_some(&times)?.saturating_sub(state.clock))
     }
 

@@ -1,10 +1,12 @@
 //! The two buffers as docs/LAYOUT.md describes them: where a column lies, by the document's own table, and what the
 //! buffers say (`decode`, None where they are not sound).
 
+use model::buses::{Bus, Value};
 use model::limits::*;
 use model::pool::Slots;
 use model::records::{parts, EXIT_BYTES, TICK_BYTES};
 use model::state::{Activity, Actor, Filter, Letter, Link, Message, Monitor, Reason, State, Timer};
+use std::collections::BTreeSet;
 
 /// A constant for each column, its number; `SIZES` and their sum `WORDS`: from the rows of docs/LAYOUT.md, by build.rs.
 #[allow(dead_code)] // Some columns are only counted.
@@ -16,6 +18,9 @@ pub use columns::*;
 
 /// The columns of the capacities, in the order of the pools. They are of one word each, as are all before them.
 pub const CAPACITIES: [usize; 6] = [ACTORS, MAILS, DATAS, LINKS, MONITORS, TIMERS];
+
+/// The seats of each bus, which stand side by side, and the bits in each half of a word of READERS.
+pub const SEATS: usize = 32;
 
 pub const FREE: u64 = 0;
 pub const RUNNABLE: u64 = 1;
@@ -126,6 +131,8 @@ pub fn decode(words: &[u64], bytes: &[u8]) -> Option<State> {
     read_actors(&r, &mut state)?;
     read_queue(&r, &mut state)?;
     read_letters(&r, &mut state)?;
+    read_buses(&r, &mut state)?;
+    read_values(&r, &mut state)?;
     read_data(&r, &mut state)?;
     read_links(&r, &mut state)?;
     read_monitors(&r, &mut state)?;
@@ -216,19 +223,88 @@ fn read_letters(r: &Reader, state: &mut State) -> Option<()> {
     require(has_exactly(&state.arrivals, (0..r.size(1)).filter(|&i| !free[i])))
 }
 
+fn read_buses(r: &Reader, state: &mut State) -> Option<()> {
+    let made = r.at(BUSES, 0);
+    require(made <= MAX_BUSES as u64)?;
+    for b in 0..MAX_BUSES {
+        if b as u64 >= made {
+            require(r.all_zero(&[BUS_SIZE, BUS_SEATS, BUS_READS, BUS_AGE], b))?;
+            require((0..SEATS).all(|n| r.at(SEAT, SEATS * b + n) == 0))?;
+            continue;
+        }
+        let (entries, subscribers) = (r.at(BUS_SIZE, b), r.at(BUS_SEATS, b));
+        let (reads, age) = (r.at(BUS_READS, b), r.at(BUS_AGE, b));
+        require(Bus::in_range(entries, subscribers, reads, age))?;
+        let mut bus = Bus::new(entries, subscribers, reads, age);
+        read_seats(r, b, &mut bus, state)?;
+        state.buses.push(bus);
+    }
+    Some(())
+}
+
+/// Live actors, none twice, in the seats that the bus has.
+fn read_seats(r: &Reader, b: usize, bus: &mut Bus, state: &State) -> Option<()> {
+    for n in (0..SEATS).filter(|&n| r.at(SEAT, SEATS * b + n) != 0) {
+        let slot = r.named(SEAT, SEATS * b + n, r.size(0))?;
+        require(n < bus.seats.len() && state.actors.get(slot).is_some() && bus.seat_of(slot).is_none())?;
+        bus.seats[n] = Some(slot);
+    }
+    Some(())
+}
+
+/// The row of values: as many as its count, none twice, and every data entry with a bus is in it.
+fn read_values(r: &Reader, state: &mut State) -> Option<()> {
+    let (count, size) = (r.at(ISSUED, 0), r.size(2));
+    require(count <= size as u64)?;
+    let count = count as usize;
+    require((count..size).all(|i| r.at(ISSUE, i) == 0))?;
+    let row: Option<Vec<usize>> = (0..count).map(|i| r.named(ISSUE, i, size)).collect();
+    let row = row?;
+    require(has_exactly(&row, (0..size).filter(|&i| r.at(VALUE_BUS, i) != 0)))?;
+    require((0..size).filter(|i| !row.contains(i)).all(|i| r.all_zero(&[READERS, PUBLISHED], i)))?;
+    for data in row {
+        let value = read_value(r, data, state)?;
+        state.values.push(value);
+    }
+    require((0..state.buses.len()).all(|bus| state.values_of(bus).len() as u64 <= state.buses[bus].entries))
+}
+
+/// A value of a bus that is made: nobody has read it who still may, and whoever may sits there.
+fn read_value(r: &Reader, data: usize, state: &State) -> Option<Value> {
+    let bus = r.named(VALUE_BUS, data, state.buses.len())?;
+    let (readers, published) = (r.at(READERS, data), r.at(PUBLISHED, data));
+    let bits = |from: usize| (0..SEATS).filter(|n| readers >> (from + n) & 1 == 1).collect::<BTreeSet<usize>>();
+    let (read, unread) = (bits(0), bits(SEATS));
+    require(read.is_disjoint(&unread) && unread.is_subset(&state.buses[bus].taken_seats()))?;
+    require(published <= state.clock)?;
+    Some(Value { bus, data, published, read, unread })
+}
+
 fn read_data(r: &Reader, state: &mut State) -> Option<()> {
     let free = r.free_bits(DATA_FREE, r.size(2))?;
     let queued = state.letters.used().map(|(_, letter)| letter.data);
-    let owned: Vec<usize> = queued.chain(state.actors.live().filter_map(|(_, a)| a.hand)).collect();
+    let held = state.actors.live().filter_map(|(_, a)| a.hand);
+    let owned: Vec<usize> = queued.chain(held).chain(state.values.iter().map(|v| v.data)).collect();
     require(has_exactly(&owned, (0..r.size(2)).filter(|&i| !free[i])))?;
     for i in 0..r.size(2) {
         if free[i] {
             require(r.all_zero(&[SENDER, LENGTH], i) && r.entry(i).iter().all(|&b| b == 0))?;
-        } else {
+        } else if r.at(VALUE_BUS, i) == 0 {
             state.data.entries[i] = Some(read_message(r, i, &state.actors)?);
+        } else {
+            state.data.entries[i] = Some(read_published(r, i)?);
         }
     }
     Some(())
+}
+
+/// What was published: header 0, and no sender.
+fn read_published(r: &Reader, i: usize) -> Option<Message> {
+    let (bytes, length) = (r.entry(i), r.at(LENGTH, i));
+    require(bytes[..4] == [0; 4] && r.at(SENDER, i) == 0 && length <= MAX_PAYLOAD as u64)?;
+    let length = length as usize;
+    require(bytes[4 + length..].iter().all(|&b| b == 0))?;
+    Some(Message { sender: 0, class: NOTIFY, tag: 0, payload: bytes[4..4 + length].to_vec() })
 }
 
 fn read_message(r: &Reader, i: usize, actors: &Slots<Actor>) -> Option<Message> {

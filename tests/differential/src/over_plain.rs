@@ -2,10 +2,10 @@
 //! With FG_FAULT one of the faults that bend a call's arguments, its answer or the buffers after it is put around them, and the
 //! test must find it. Records and traces are the stand-in's.
 
-use crate::call::{Answer, Call};
+use crate::call::{written, Answer, Call, Written};
 use crate::calls::calls;
 use crate::faults;
-use model::{Advanced, Ended, Made, Model, Received, Report, Shown, Turn};
+use model::{Advanced, Copied, Ended, Made, Model, Received, Report, Shown, Turn};
 use plain::boundary;
 use std::slice::{from_raw_parts, from_raw_parts_mut};
 
@@ -22,6 +22,7 @@ macro_rules! by_plain_rust {
     (
         numbers { $($call:ident $(($($arg:ident: $ty:ty),*))? = $c:ident, $method:ident -> $answer:ty, $chances:expr, $chosen:expr;)* }
         payloads { $($sent:ident($($with:ident: $kind:ty),*) = $sent_c:ident, $sent_method:ident -> $sent_answer:ty, $sent_chances:expr, $sent_chosen:expr;)* }
+        slices { $($lent:ident($($by:ident: $sort:ty),*) = $lent_c:ident, $lent_method:ident -> $lent_answer:ty, $lent_chances:expr, $lent_chosen:expr;)* }
     ) => {
         /// The call as plain Rust makes it, through its own C boundary.
         fn by_plain(words: &mut [u64], bytes: &mut [u8], call: &Call) -> Answer {
@@ -35,6 +36,9 @@ macro_rules! by_plain_rust {
                 $(Call::$sent($($with,)* payload) => unsafe {
                     boundary::$sent_method(t, t_len, p, p_len, $(*$with,)* payload.as_ptr(), payload.len())
                 }.into(),)*
+                $(Call::$lent($($by,)* slice) => written(slice, |out| unsafe {
+                    boundary::$lent_method(t, t_len, p, p_len, $(*$by,)* out.as_mut_ptr(), out.len())
+                }),)*
             }
         }
 
@@ -58,6 +62,22 @@ macro_rules! by_plain_rust {
                 }
                 let payload = from_raw_parts(payload, payload_len).to_vec();
                 bent(from_raw_parts_mut(t, t_len), from_raw_parts_mut(p, p_len), Call::$sent($($with,)* payload)).into()
+            }
+        )*
+
+        $(
+            #[no_mangle]
+            unsafe extern "C" fn $lent_c(
+                t: *mut u64, t_len: usize, p: *mut u8, p_len: usize, $($by: $sort,)* out: *mut u8, out_len: usize,
+            ) -> $lent_answer {
+                if faults::none() {
+                    return boundary::$lent_method(t, t_len, p, p_len, $($by,)* out, out_len);
+                }
+                let (words, bytes) = (from_raw_parts_mut(t, t_len), from_raw_parts_mut(p, p_len));
+                let out = from_raw_parts_mut(out, out_len);
+                let written: Written = bent(words, bytes, Call::$lent($($by,)* out.to_vec())).into();
+                out.copy_from_slice(&written.slice);
+                written.copied
             }
         )*
     };

@@ -165,6 +165,7 @@ impl<'a> Session<'a> {
         match call {
             Call::Spawn(_) => self.actors.add(made.id),
             Call::Monitor(_) => self.monitors.add(made.id),
+            Call::Bus(..) => {}
             _ => self.timers.add(made.id),
         }
     }

@@ -2,13 +2,13 @@
 //! With it the test compares the model with itself and so tests its own parts.
 //! Only used where no archive of the library is linked (`cfg(self_test)`, and the archive `standin`).
 
-use crate::call::{Answer, Call};
+use crate::call::{Answer, Call, Written};
 use crate::calls::calls;
 use crate::encode::store;
 use crate::faults;
 use crate::layout::table_suffices;
 use model::limits::bytes_needed;
-use model::{Advanced, Ended, Made, Model, Received, Report, Shown, Turn};
+use model::{Advanced, Copied, Ended, Made, Model, Received, Report, Shown, Turn};
 use std::slice::{from_raw_parts, from_raw_parts_mut};
 
 /// Makes one call on the two buffers.
@@ -19,13 +19,13 @@ unsafe fn on_buffers(t: *mut u64, t_len: usize, p: *mut u8, p_len: usize, call: 
     let (words, bytes) = (from_raw_parts_mut(t, t_len), from_raw_parts_mut(p, p_len));
     let before = Model { state: faults::read(words, bytes) };
     let mut bent = before.clone();
-    bent.state.iter_mut().for_each(|state| faults::before(call.name(), state));
+    bent.state.iter_mut().for_each(|state| faults::before(&call, state));
     let mut after = bent.clone();
     let answer = faults::call(call.clone(), &before).on_model(&mut after, t_len, p_len);
     if after == bent {
         after = before.clone();
     } else if let (Some(old), Some(new)) = (&before.state, &mut after.state) {
-        faults::after(call.name(), old, new);
+        faults::after(&call, old, new);
     }
     if after != before {
         store(&after, words, bytes);
@@ -64,6 +64,7 @@ macro_rules! stand_ins {
     (
         numbers { $($call:ident $(($($arg:ident: $ty:ty),*))? = $c:ident, $method:ident -> $answer:ty, $chances:expr, $chosen:expr;)* }
         payloads { $($sent:ident($($with:ident: $kind:ty),*) = $sent_c:ident, $sent_method:ident -> $sent_answer:ty, $sent_chances:expr, $sent_chosen:expr;)* }
+        slices { $($lent:ident($($by:ident: $sort:ty),*) = $lent_c:ident, $lent_method:ident -> $lent_answer:ty, $lent_chances:expr, $lent_chosen:expr;)* }
     ) => {
         $(
             #[no_mangle]
@@ -79,6 +80,18 @@ macro_rules! stand_ins {
             ) -> $sent_answer {
                 let payload = from_raw_parts(payload, payload_len).to_vec();
                 on_buffers(t, t_len, p, p_len, Call::$sent($($with,)* payload)).into()
+            }
+        )*
+
+        $(
+            #[no_mangle]
+            unsafe extern "C" fn $lent_c(
+                t: *mut u64, t_len: usize, p: *mut u8, p_len: usize, $($by: $sort,)* out: *mut u8, out_len: usize,
+            ) -> $lent_answer {
+                let out = from_raw_parts_mut(out, out_len);
+                let written: Written = on_buffers(t, t_len, p, p_len, Call::$lent($($by,)* out.to_vec())).into();
+                out.copy_from_slice(&written.slice);
+                written.copied
             }
         )*
     };

@@ -95,6 +95,10 @@ fn judge(replay: &mut Replay, bytes: &[u8]) -> bool {
     if faults::is("replay-begins-with-any-start") && record.shape.name == "start" && replay.model.state.is_none() {
         return record.answer == [Field::Number(MALFORMED)] || replay.is_right(bytes);
     }
+    if faults::is("copied-bytes-not-judged") && record.shape.name == "read" {
+        record.answer = replay.clone().answer(&record);
+        return replay.is_right(&record.bytes());
+    }
     if faults::is("replay-looks-at-the-first-number-alone") {
         let answer = replay.clone().answer(&record);
         record.answer.splice(1.., answer.into_iter().skip(1));

@@ -21,7 +21,7 @@ pub fn record(call: &Call, answer: &Answer, lengths: (usize, usize)) -> Record {
     if call.is_start() {
         args.splice(0..0, [lengths.0, lengths.1].map(|length| Field::Number(length as u64)));
     }
-    Record { shape, args, answer: answer.numbers().into_iter().map(Field::Number).collect() }
+    Record { shape, args, answer: answer.fields() }
 }
 
 /// The record of showing a part of the payload area.
@@ -83,7 +83,7 @@ pub struct Trace {
 
 impl Trace {
     pub fn new(fill: u8) -> Self {
-        let buffers = Buffers { words: vec![u64::from(fill); 4_096], bytes: vec![fill; 65_536] };
+        let buffers = Buffers { words: vec![u64::from(fill); 6_144], bytes: vec![fill; 65_536] };
         Trace { bytes: Vec::new(), records: 0, buffers, replay: Replay::new(suffices) }
     }
 
@@ -172,7 +172,7 @@ fn changed(random: &mut Random, record: &[u8]) -> Vec<u8> {
             let length = random.index(80);
             bytes = random.bytes(length);
         }
-        3 => bytes[2] = random.between(14, 35) as u8,
+        3 => bytes[2] = random.between(14, 40) as u8,
         4 | 5 => {
             let at = random.index(bytes.len());
             bytes[at] ^= 1 << random.below(8);

@@ -24,11 +24,16 @@ macro_rules! writers {
                 fg_trace_advance(us: u64, no: u64, fired: u64);
                 fg_trace_report(
                     no: u64, actors: u64, mailboxes: u64, data: u64, links: u64, monitors: u64, timers: u64);
+                fg_trace_bus(entries: u64, subscribers: u64, reads: u64, age_ms: u64, no: u64, id: u64);
+                fg_trace_subscribe(bus: u64, no: u64);
+                fg_trace_unsubscribe(bus: u64, no: u64);
             }
             // Numbers, a payload, numbers.
             payloads {
                 fg_trace_notify(target: u64, tag: u64; no: u64);
                 fg_trace_show(;);
+                fg_trace_publish(bus: u64; no: u64);
+                fg_trace_read(bus: u64, room: u64, no: u64;);
             }
         }
     };

@@ -72,6 +72,13 @@ pub struct Report {
 
 #[repr(C)]
 #[derive(Debug, Clone, Copy, PartialEq, Eq, Default)]
+pub struct Copied {
+    pub no: u64,
+    pub length: u64,
+}
+
+#[repr(C)]
+#[derive(Debug, Clone, Copy, PartialEq, Eq, Default)]
 pub struct TickRead {
     pub no: u64,
     pub id: u32,
@@ -144,5 +151,11 @@ impl Numbers for Advanced {
 impl Numbers for Report {
     fn numbers(&self) -> Vec<u64> {
         [&[self.no], &self.free[..]].concat()
+    }
+}
+
+impl Numbers for Copied {
+    fn numbers(&self) -> Vec<u64> {
+        vec![self.no, self.length]
     }
 }

@@ -1,6 +1,7 @@
 //! The host calls. Every call tests in the order 7, 4, 1, 3, 2 and changes nothing when it refuses.
 
 use crate::answers::*;
+use crate::buses::Bus;
 use crate::limits::*;
 use crate::records;
 use crate::state::{Activity, Actor, Filter, Link, Message, Monitor, Reason, State, Timer};
@@ -233,6 +234,7 @@ impl Model {
         state.clock += step;
         let fired = fire_timers(state);
         end_waits(state);
+        state.end_aged_values();
         Ok(Advanced { no: DONE, fired })
     }
 
@@ -241,6 +243,82 @@ impl Model {
             Ok(state) => Report { no: DONE, free: free_counts(state) },
             Err(no) => Report { no, free: [0; 6] },
         }
+    }
+
+    /// Makes a bus, and answers its number. Entries and subscribers are from 1; 0 reads, or an age of 0, end no entry.
+    pub fn bus(&mut self, entries: u64, subscribers: u64, reads: u64, age: u64) -> Made {
+        made(self.try_bus(entries, subscribers, reads, age))
+    }
+
+    fn try_bus(&mut self, entries: u64, subscribers: u64, reads: u64, age: u64) -> Refused<u64> {
+        let state = self.sound()?;
+        refuse_if(!Bus::in_range(entries, subscribers, reads, age), MALFORMED)?;
+        refuse_if(state.buses.len() == MAX_BUSES, NO_ROOM)?;
+        state.buses.push(Bus::new(entries, subscribers, reads, age));
+        Ok(state.buses.len() as u64 - 1)
+    }
+
+    pub fn publish(&mut self, bus: u64, payload: &[u8]) -> u64 {
+        number(self.try_publish(bus, payload))
+    }
+
+    fn try_publish(&mut self, bus: u64, payload: &[u8]) -> Refused<()> {
+        let (state, _) = self.caller()?;
+        refuse_if(payload.len() > MAX_PAYLOAD, MALFORMED)?;
+        let bus = state.find_bus(bus).ok_or(UNKNOWN)?;
+        if state.is_full(bus) {
+            state.end_oldest(bus);
+        }
+        refuse_if(!state.publish(bus, payload), NO_ROOM)
+    }
+
+    pub fn subscribe(&mut self, bus: u64) -> u64 {
+        number(self.try_subscribe(bus))
+    }
+
+    fn try_subscribe(&mut self, bus: u64) -> Refused<()> {
+        let (state, me) = self.caller()?;
+        let bus = state.find_bus(bus).ok_or(UNKNOWN)?;
+        refuse_if(state.buses[bus].seat_of(me).is_some(), MALFORMED)?;
+        let seat = state.buses[bus].free_seat().ok_or(NO_ROOM)?;
+        state.buses[bus].seats[seat] = Some(me);
+        Ok(())
+    }
+
+    pub fn unsubscribe(&mut self, bus: u64) -> u64 {
+        number(self.try_unsubscribe(bus))
+    }
+
+    fn try_unsubscribe(&mut self, bus: u64) -> Refused<()> {
+        let (state, me) = self.caller()?;
+        let bus = state.find_bus(bus).ok_or(UNKNOWN)?;
+        let seat = state.buses[bus].seat_of(me).ok_or(UNKNOWN)?;
+        state.leave(bus, seat);
+        Ok(())
+    }
+
+    /// Copies the oldest entry of a bus that the caller has not read to the front of a slice.
+    pub fn read(&mut self, bus: u64, out: &mut [u8]) -> Copied {
+        let (no, payload) = self.read_within(bus, out.len() as u64);
+        out[..payload.len()].copy_from_slice(&payload);
+        Copied { no, length: payload.len() as u64 }
+    }
+
+    /// The same for a slice of so many bytes: the number, and the bytes that are copied.
+    pub fn read_within(&mut self, bus: u64, room: u64) -> (u64, Vec<u8>) {
+        match self.try_read(bus, room) {
+            Ok(payload) => (DONE, payload),
+            Err(no) => (no, Vec::new()),
+        }
+    }
+
+    fn try_read(&mut self, bus: u64, room: u64) -> Refused<Vec<u8>> {
+        let (state, me) = self.caller()?;
+        let bus = state.find_bus(bus).ok_or(UNKNOWN)?;
+        let seat = state.buses[bus].seat_of(me).ok_or(UNKNOWN)?;
+        let place = state.oldest_unread(bus, seat).ok_or(NOTHING)?;
+        refuse_if(state.payload(place).len() as u64 > room, MALFORMED)?;
+        Ok(state.read(place, seat))
     }
 }
 
@@ -364,7 +442,7 @@ fn end_waits(state: &mut State) {
     }
 }
 
-/// Ends the running actor: hand and mailbox, links, monitors on it, its own monitors and timers, its slot.
+/// Ends the running actor: hand and mailbox, links, monitors on it, its own monitors and timers, its subscriptions, its slot.
 fn end(state: &mut State, me: usize, reason: u64) -> Ended {
     state.release_hand(me);
     state.clear_mailbox(me);
@@ -382,6 +460,7 @@ fn end(state: &mut State, me: usize, reason: u64) -> Ended {
         }
     }
     remove_own(state, me);
+    state.leave_all(me);
     state.actors.release(me);
     ended
 }

@@ -1,4 +1,4 @@
-//! The ranges and special numbers of document 01.
+//! The ranges and special numbers of document 01, and of the requests that came later.
 
 /// Largest capacity of each pool, in the order of the pool table.
 pub const LARGEST: [u64; 6] = [64, 256, 256, 128, 128, 64];
@@ -23,6 +23,13 @@ pub const MAX_PRIORITY: u64 = 3;
 pub const MAX_PAYLOAD: usize = 252;
 pub const ENTRY_BYTES: u64 = 256;
 pub const HEADER_BYTES: u64 = 4;
+
+/// Buses; the entries and the subscribers of one, both from 1; after how many reads, and after how many milliseconds, an entry may end.
+pub const MAX_BUSES: usize = 32;
+pub const MAX_BUS_ENTRIES: u64 = 16;
+pub const MAX_SUBSCRIBERS: u64 = 32;
+pub const MAX_READS: u64 = 32;
+pub const MAX_BUS_AGE: u64 = (1 << 31) - 1;
 
 pub const ANY_SENDER: u64 = 4_294_967_295;
 pub const ANY_CLASS: u64 = 15;

@@ -1,5 +1,6 @@
 //! What the runtime holds, and the steps that several calls share.
 
+use crate::buses::{Bus, Value};
 use crate::limits::*;
 use crate::pool::{Entries, Slots};
 
@@ -46,7 +47,7 @@ pub struct Actor {
     pub hand: Option<usize>,
 }
 
-/// What a data entry holds.
+/// What a data entry holds: a message, or what was published on a bus, with header 0 and no sender.
 #[derive(Debug, Clone, PartialEq, Eq)]
 pub struct Message {
     pub sender: u64,
@@ -111,6 +112,10 @@ pub struct State {
     pub links: Entries<Link>,
     pub monitors: Slots<Monitor>,
     pub timers: Slots<Timer>,
+    /// The buses that were made, by their number.
+    pub buses: Vec<Bus>,
+    /// The entries of all buses, in the order of publishing; those of a bus are the part with its number.
+    pub values: Vec<Value>,
 }
 
 impl State {
@@ -125,6 +130,8 @@ impl State {
             links: Entries::new(caps[3]),
             monitors: Slots::new(MONITOR_FACTOR, caps[4]),
             timers: Slots::new(TIMER_FACTOR, caps[5]),
+            buses: Vec::new(),
+            values: Vec::new(),
         }
     }
 

@@ -19,8 +19,9 @@ const fn shape(kind: u16, name: &'static str, args: &'static str, answer: &'stat
     Shape { kind, name, args, answer }
 }
 
-/// The table of kinds. A start has the words and the bytes of the buffers before its capacities.
-pub const SHAPES: [Shape; 18] = [
+/// The table of kinds. A start has the words and the bytes of the buffers before its capacities. A read has the length of the slice that was
+/// lent, and then the number answered and the bytes that were copied.
+pub const SHAPES: [Shape; 23] = [
     shape(16, "start", "nnnnnnnn", "n"),
     shape(17, "spawn", "n", "nn"),
     shape(18, "next", "", "nnns"),
@@ -39,6 +40,11 @@ pub const SHAPES: [Shape; 18] = [
     shape(31, "exit", "n", "nnn"),
     shape(32, "advance", "n", "nn"),
     shape(33, "report", "", "nnnnnnn"),
+    shape(34, "bus", "nnnn", "nn"),
+    shape(35, "publish", "np", "n"),
+    shape(36, "subscribe", "n", "n"),
+    shape(37, "unsubscribe", "n", "n"),
+    shape(38, "read", "nn", "np"),
 ];
 
 impl Shape {

@@ -56,10 +56,15 @@ impl Replay {
 
     /// Makes the call of a record and gives the answer that is right.
     pub fn answer(&mut self, record: &Record) -> Vec<Field> {
-        if record.shape.name == "show" {
-            return vec![Field::payload(&self.model.show())];
+        match record.shape.name {
+            "show" => vec![Field::payload(&self.model.show())],
+            "read" => {
+                let numbers = record.numbers();
+                let (no, copied) = self.model.read_within(numbers[0], numbers[1]);
+                vec![Field::Number(no), Field::payload(&copied)]
+            }
+            _ => self.answer_in_numbers(record).into_iter().map(Field::Number).collect(),
         }
-        self.answer_in_numbers(record).into_iter().map(Field::Number).collect()
     }
 
     fn answer_in_numbers(&mut self, record: &Record) -> Vec<u64> {
@@ -85,6 +90,10 @@ impl Replay {
             "exit" => m.exit(n[0]).numbers(),
             "advance" => m.advance(n[0]).numbers(),
             "report" => m.report().numbers(),
+            "bus" => m.bus(n[0], n[1], n[2], n[3]).numbers(),
+            "publish" => m.publish(n[0], &payload(record)).numbers(),
+            "subscribe" => m.subscribe(n[0]).numbers(),
+            "unsubscribe" => m.unsubscribe(n[0]).numbers(),
             name => unreachable!("{name} is no call"),
         }
     }

@@ -36,6 +36,16 @@ fn notify(target: i64, payload: &[u8], no: i64) -> Vec<u8> {
     Record { shape: Shape::of_name("notify").unwrap(), args, answer: numbers(&[no]) }.bytes()
 }
 
+fn publish(bus: i64, payload: &[u8], no: i64) -> Vec<u8> {
+    let args = [numbers(&[bus]), vec![Field::payload(payload)]].concat();
+    Record { shape: Shape::of_name("publish").unwrap(), args, answer: numbers(&[no]) }.bytes()
+}
+
+fn read(bus: i64, room: i64, no: i64, copied: &[u8]) -> Vec<u8> {
+    let answer = [numbers(&[no]), vec![Field::payload(copied)]].concat();
+    Record { shape: Shape::of_name("read").unwrap(), args: numbers(&[bus, room]), answer }.bytes()
+}
+
 fn show(part: &[u8]) -> Vec<u8> {
     Record { shape: Shape::of_name("show").unwrap(), args: vec![], answer: vec![Field::payload(part)] }.bytes()
 }
@@ -76,7 +86,21 @@ fn run() -> Vec<Vec<u8>> {
         call("next", &[], &[0, 64, 1, 0]),
         call("exit", &[65_533], &[0, 1, 0]),
         call("report", &[], &[0, 3, 7, 7, 4, 4, 4]),
+        call("bus", &[2, 1, 0, 0], &[0, 0]),
+        call("next", &[], &[0, 65, 1, 0]),
+        call("subscribe", &[0], &[0]),
+        publish(0, b"21.5", 0),
+        read(0, 3, 1, b""),
+        read(0, 4, 0, b"21.5"),
+        read(0, 4, 5, b""),
+        call("unsubscribe", &[0], &[0]),
+        read(0, 4, 3, b""),
     ]
+}
+
+/// How many records that are, as a verdict counts them.
+fn count() -> u64 {
+    run().len() as u64
 }
 
 fn trace() -> Vec<u8> {
@@ -85,7 +109,7 @@ fn trace() -> Vec<u8> {
 
 #[test]
 fn a_whole_trace_is_ok() {
-    assert_eq!(verdict(&trace()), Ok(run().len() as u64));
+    assert_eq!(verdict(&trace()), Ok(count()));
 }
 
 #[test]
@@ -117,17 +141,17 @@ fn the_first_start_must_be_done() {
 
 #[test]
 fn a_length_without_room_for_a_kind_is_bad() {
-    assert_eq!(verdict(&[&trace()[..], &[0, 0]].concat()), Bad(27));
-    assert_eq!(verdict(&[&trace()[..], &[1, 0, 17]].concat()), Bad(27));
+    assert_eq!(verdict(&[&trace()[..], &[0, 0]].concat()), Bad(count()));
+    assert_eq!(verdict(&[&trace()[..], &[1, 0, 17]].concat()), Bad(count()));
     assert_eq!(verdict(&[0, 0]), Bad(0));
 }
 
 #[test]
 fn an_unknown_kind_is_bad_and_cut_where_the_input_ends_inside() {
-    for kind in [0, 1, 2, 3, 4, 15, 34, 255, 256 + 17] {
+    for kind in [0, 1, 2, 3, 4, 15, 39, 255, 256 + 17] {
         let [low, high] = u16::to_le_bytes(kind);
-        assert_eq!(verdict(&[&trace()[..], &[2, 0, low, high]].concat()), Bad(27));
-        assert_eq!(verdict(&[&trace()[..], &[3, 0, low, high]].concat()), Cut(27));
+        assert_eq!(verdict(&[&trace()[..], &[2, 0, low, high]].concat()), Bad(count()));
+        assert_eq!(verdict(&[&trace()[..], &[3, 0, low, high]].concat()), Cut(count()));
     }
 }
 
@@ -212,6 +236,28 @@ fn a_payload_over_252_is_its_length_alone() {
 #[test]
 fn a_shown_part_over_252_is_never_right() {
     assert_eq!(verdict(&[run()[..17].concat(), show(&[1; 300])].concat()), Bad(17));
+}
+
+#[test]
+fn the_bytes_that_a_read_copied_are_compared() {
+    let before = run()[..32].concat();
+    for (copied, verdict_due) in
+        [(&b"21.5"[..], Ok(33)), (b"21.6", Bad(32)), (b"21.5 ", Bad(32)), (b"21.", Bad(32)), (b"", Bad(32))]
+    {
+        assert_eq!(verdict(&[&before[..], &read(0, 252, 0, copied)].concat()), verdict_due);
+    }
+    assert_eq!(verdict(&[&before[..], &read(0, -1, 0, b"21.5")].concat()), Ok(33));
+    assert_eq!(verdict(&[&before[..], &read(0, 300, 0, &[1; 300])].concat()), Bad(32));
+    assert_eq!(read(0, 252, 0, &[1; 252]).len(), trace::most());
+}
+
+#[test]
+fn what_is_published_is_recorded_as_a_message_is() {
+    let before = run()[..30].concat();
+    assert_eq!(publish(0, &[9; 253], 1), publish(0, &[7; 253], 1));
+    assert_eq!(verdict(&[&before[..], &publish(0, &[9; 253], 1)].concat()), Ok(31));
+    assert_eq!(verdict(&[&before[..], &publish(0, &[9; 253], 0)].concat()), Bad(30));
+    assert_eq!(verdict(&[&before[..], &publish(0, &[9; 252], 0)].concat()), Ok(31));
 }
 
 #[test]

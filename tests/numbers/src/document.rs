@@ -24,7 +24,7 @@ impl Amount {
         self
     }
 
-    /// Reads a sum such as `24 + 10·actors + timers`.
+    /// Reads a sum such as `1176 + 10·actors + timers`.
     fn read(text: &str) -> Result<Amount, String> {
         let mut sum = Amount::default();
         for term in text.split('+').map(str::trim) {
@@ -114,7 +114,7 @@ impl Document {
         Ok(self)
     }
 
-    /// What the document says of the largest capacities stands in it, as `2,840 words` and `65,536 bytes`.
+    /// What the document says of the largest capacities stands in it, as `5,016 words` and `65,536 bytes`.
     pub fn states(&self, largest: &[u64; 6]) -> Result<(), String> {
         for (amount, unit) in [(self.words, "words"), (self.bytes, "bytes")] {
             let number = amount.at(largest);

@@ -7,16 +7,16 @@ pub type Numbers = BTreeMap<String, i128>;
 const CODE: [(&str, &str); 5] = [
     ("crates/pools/src/bits.rt", include_str!("../../../crates/pools/src/bits.rt")),
     ("crates/tables/src/columns.rt", include_str!("../../../crates/tables/src/columns.rt")),
-    ("crates/tables/src/sizes.rt", include_str!("../../../crates/tables/src/sizes.rt")),
     ("crates/tables/src/limits.rt", include_str!("../../../crates/tables/src/limits.rt")),
+    ("crates/tables/src/sizes.rt", include_str!("../../../crates/tables/src/sizes.rt")),
     ("crates/rules/src/states.rt", include_str!("../../../crates/rules/src/states.rt")),
 ];
 
 const SPECS: [(&str, &str); 5] = [
     ("crates/pools/specs/Bits.antt", include_str!("../../../crates/pools/specs/Bits.antt")),
     ("crates/tables/specs/Columns.antt", include_str!("../../../crates/tables/specs/Columns.antt")),
-    ("crates/tables/specs/Sizes.antt", include_str!("../../../crates/tables/specs/Sizes.antt")),
     ("crates/tables/specs/Limits.antt", include_str!("../../../crates/tables/specs/Limits.antt")),
+    ("crates/tables/specs/Sizes.antt", include_str!("../../../crates/tables/specs/Sizes.antt")),
     ("crates/rules/specs/Terms.antt", include_str!("../../../crates/rules/specs/Terms.antt")),
 ];
 
@@ -56,7 +56,9 @@ type Find = for<'a> fn(&'a str, &'a str) -> Option<(&'a str, &'a str)>;
 fn read(files: &[(&str, &str)], find: Find) -> Result<Numbers, String> {
     let mut numbers = Numbers::new();
     for (file, text) in files {
-        let lines: Vec<&str> = text.lines().chain([""]).collect();
+        // A long sum goes on in the next lines, each of which begins with its sign.
+        let joined = text.replace("\n    + ", " + ");
+        let lines: Vec<&str> = joined.lines().chain([""]).collect();
         for pair in lines.windows(2) {
             let Some((name, sum)) = find(pair[0], pair[1]) else { continue };
             let wrong = |what: String| format!("{file}: {name} = {sum}: {what}");

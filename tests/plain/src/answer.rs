@@ -2,7 +2,7 @@
 
 use crate::sound;
 use crate::tables::{Tables, RUNNING};
-use model::{Advanced, Ended, Made, Received, Report, Shown, Turn, DONE, NOT_NOW, UNSOUND};
+use model::{Advanced, Copied, Ended, Made, Received, Report, Shown, Turn, DONE, NOT_NOW, UNSOUND};
 
 /// What a call answers, or the number with which it is refused or finds nothing.
 pub type Outcome<T> = Result<T, u64>;
@@ -22,7 +22,7 @@ macro_rules! bare {
     };
 }
 
-bare!(Made Turn Received Shown Ended Advanced Report);
+bare!(Made Turn Received Shown Ended Advanced Report Copied);
 
 impl Bare for u64 {
     fn bare(no: u64) -> Self {

@@ -3,8 +3,8 @@
 
 use crate::answer::{by_caller, on_sound};
 use crate::messages::{self, Filter};
-use crate::{actors, ending, start, ties, timers};
-use model::{Advanced, Ended, Made, Received, Report, Shown, Turn};
+use crate::{actors, buses, ending, start, ties, timers};
+use model::{Advanced, Copied, Ended, Made, Received, Report, Shown, Turn};
 use std::slice::{from_raw_parts, from_raw_parts_mut};
 
 /// Starts over in two buffers.
@@ -50,6 +50,46 @@ pub unsafe extern "C" fn notify(
     })
 }
 
+/// Publishes on a bus.
+///
+/// # Safety
+/// As for all calls, and the payload's pointer must be good for its length too.
+#[export_name = "plain_publish"]
+pub unsafe extern "C" fn publish(
+    t: *mut u64,
+    t_len: usize,
+    p: *mut u8,
+    p_len: usize,
+    bus: u64,
+    payload: *const u8,
+    payload_len: usize,
+) -> u64 {
+    let payload = if payload_len == 0 { &[] } else { from_raw_parts(payload, payload_len) };
+    by_caller(from_raw_parts_mut(t, t_len), from_raw_parts_mut(p, p_len), |tables, _| {
+        buses::publish(tables, bus, payload)
+    })
+}
+
+/// Reads from a bus.
+///
+/// # Safety
+/// As for all calls, and the pointer of the slice that is written to must be good for its length too.
+#[export_name = "plain_read"]
+pub unsafe extern "C" fn read(
+    t: *mut u64,
+    t_len: usize,
+    p: *mut u8,
+    p_len: usize,
+    bus: u64,
+    out: *mut u8,
+    out_len: usize,
+) -> Copied {
+    let out = if out_len == 0 { &mut [] } else { from_raw_parts_mut(out, out_len) };
+    by_caller(from_raw_parts_mut(t, t_len), from_raw_parts_mut(p, p_len), |tables, me| {
+        buses::read(tables, me, bus, out)
+    })
+}
+
 /// Makes the functions of calls with numbers alone: the name in C, the name here, the arguments, who may call, the work.
 macro_rules! calls {
     ($($c:literal $name:ident($($arg:ident: $ty:ty),*) -> $answer:ty, $by:ident: $work:expr;)*) => {
@@ -85,4 +125,8 @@ calls! {
     "plain_exit" exit(reason: u64) -> Ended, by_caller: |t, me| ending::exit(t, me, reason);
     "plain_advance" advance(us: u64) -> Advanced, on_sound: |t| timers::advance(t, us);
     "plain_report" report() -> Report, on_sound: start::report;
+    "plain_bus" bus(entries: u64, subscribers: u64, reads: u64, age_ms: u64) -> Made, on_sound:
+        |t| buses::bus(t, entries, subscribers, reads, age_ms);
+    "plain_subscribe" subscribe(bus: u64) -> u64, by_caller: |t, me| buses::subscribe(t, me, bus);
+    "plain_unsubscribe" unsubscribe(bus: u64) -> u64, by_caller: |t, me| buses::unsubscribe(t, me, bus);
 }

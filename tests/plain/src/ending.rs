@@ -1,4 +1,4 @@
-//! Exit: hand and mailbox, links, monitors on the actor, its own monitors and timers, its slot.
+//! Exit: hand and mailbox, links, monitors on the actor, its own monitors and timers, its subscriptions, its slot.
 
 use crate::actors::FREE;
 use crate::answer::{require, Outcome};
@@ -22,6 +22,7 @@ pub fn exit(tables: &mut Tables, me: usize, reason: u64) -> Outcome<Ended> {
     cut_links(tables, me as u64 + 1, &mut notices);
     cut_monitors(tables, me as u64 + 1, &mut notices);
     drop_timers(tables, me as u64 + 1);
+    tables.leave_all(me as u64 + 1);
     tables.actors.state[me] = FREE;
     tables.actors.priority[me] = 0;
     tables.head[RUNNING] = 0;

@@ -11,6 +11,7 @@ mod actors;
 mod answer;
 #[allow(unsafe_code)]
 pub mod boundary;
+mod buses;
 mod ending;
 mod messages;
 mod pools;

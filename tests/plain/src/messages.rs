@@ -93,7 +93,7 @@ impl Tables<'_> {
 }
 
 impl Datas<'_> {
-    fn write(&mut self, data: usize, message: &Message) {
+    pub fn write(&mut self, data: usize, message: &Message) {
         self.sender[data] = message.sender;
         self.length[data] = message.payload.len() as u64;
         let entry = &mut self.entries[data];

@@ -1,12 +1,13 @@
 //! The test of both buffers: the paragraph "Sound means" of document 01, in few passes over each column. What is counted as it goes:
-//! a mask of the actors in each state, and a byte for each data entry that somebody holds.
+//! a mask of the actors in each state, a byte for each data entry that somebody holds, and who sits on each bus.
 //! Where several things are tested of one entry, they are joined by `&`, not by branches.
 
 use crate::actors::{FREE, RUNNABLE, RUNS, TIMEOUT, WAITS};
+use crate::buses;
 use crate::ending::EXIT_HEADER;
 use crate::messages::{header_of, Filter, HEADER};
 use crate::pools::{all_free, count, is_free};
-use crate::tables::{Entry, Tables, ARRIVED, CLOCK, ENTRY, QUEUED, RUNNING, SPARE};
+use crate::tables::{Entry, Seats, Tables, ARRIVED, BUSES, CLOCK, ENTRY, ISSUED, QUEUED, RUNNING, SEATS, SPARE};
 use crate::timers::TICK_HEADER;
 use model::limits::*;
 use model::records::{EXIT_BYTES, TICK_BYTES};
@@ -46,6 +47,7 @@ pub fn is_sound(tables: &Tables) -> bool {
     queue(tables, &who)
         && mailboxes(tables, &who, &mut held)
         && hands(tables, &mut held)
+        && values(tables, &who, &mut held)
         && data(tables, &held)
         && links(tables, &who)
         && monitors(tables, &who)
@@ -184,15 +186,101 @@ fn hands(tables: &Tables, held: &mut [u8; 256]) -> bool {
 
 /// Each data entry is held and holds a message, or is free and all zero.
 fn data(tables: &Tables, held: &[u8; 256]) -> bool {
-    let words = tables.datas.sender.iter().zip(&*tables.datas.length);
+    let words = tables.datas.sender.iter().zip(&*tables.datas.length).zip(&*tables.datas.bus);
     let mut entries = tables.datas.entries.iter().zip(words).zip(held).enumerate();
-    entries.all(|(number, ((entry, (&sender, &length)), &held))| {
+    entries.all(|(number, ((entry, ((&sender, &length), &bus)), &held))| {
         if is_free(tables.data_free, number) {
             (u64::from(held) | sender | length == 0) & is_zero(entry)
-        } else {
+        } else if bus == 0 {
             held == 1 && message(entry, sender, length, tables.actors.age)
+        } else {
+            held == 1 && published(entry, sender, length)
         }
     })
+}
+
+/// Header 0 and no sender, and what is past the payload is zero.
+#[inline]
+fn published(entry: &Entry, sender: u64, length: u64) -> bool {
+    let public = (u64::from(header_of(entry)) | sender == 0) & (length <= MAX_PAYLOAD as u64);
+    public && zero_from(entry, HEADER + length as usize)
+}
+
+/// The buses that are made have settings in range, live subscribers and no more values than they can have; the others are all zero. The row of
+/// values has each once.
+fn values(tables: &Tables, who: &Who, held: &mut [u8; 256]) -> bool {
+    let (made, issued) = (tables.head[BUSES] as usize, tables.head[ISSUED] as usize);
+    if tables.head[BUSES] > MAX_BUSES as u64 || tables.head[ISSUED] > tables.datas.issue.len() as u64 {
+        return false;
+    }
+    let (row, past) = tables.datas.issue.split_at(issued);
+    let mut audiences = [0; MAX_BUSES];
+    if any_set(past) || !unmade(tables, made) || !(0..made).all(|bus| bus_is_sound(tables, who, bus, &mut audiences)) {
+        return false;
+    }
+    let mut counts = [0u64; MAX_BUSES];
+    row.iter().all(|&one_up| value_is_sound(tables, one_up, &audiences, &mut counts, held))
+        && no_other_values(tables, issued)
+        && (0..made).all(|bus| counts[bus] <= tables.buses.size[bus])
+}
+
+/// The buses from this one on are not made.
+fn unmade(tables: &Tables, made: usize) -> bool {
+    let b = &tables.buses;
+    let settings =
+        [&b.size[made..], &b.limit[made..], &b.reads[made..], &b.age[made..], b.seats[made..].as_flattened()];
+    !settings.into_iter().any(any_set)
+}
+
+/// Settings in range, and live actors, none twice, in the seats that the bus has. Tells who sits there.
+fn bus_is_sound(tables: &Tables, who: &Who, bus: usize, audiences: &mut [u64; MAX_BUSES]) -> bool {
+    let b = &tables.buses;
+    let in_range = buses::in_range(b.size[bus], b.limit[bus], b.reads[bus], b.age[bus]);
+    audiences[bus] = buses::audience(&b.seats[bus]);
+    in_range && audiences[bus] >> SEATS >> b.limit[bus] == 0 && seated(&b.seats[bus], who)
+}
+
+fn seated(seats: &Seats, who: &Who) -> bool {
+    let (mut found, mut good) = (0u64, true);
+    for &slot in seats.iter().filter(|&&slot| slot != 0) {
+        let bit = 1 << (slot - 1) % 64;
+        good &= who.lives(slot) & (found & bit == 0);
+        found |= bit;
+    }
+    good
+}
+
+/// A word of the row names a value that nobody else holds: of a bus that is made, published by now, and whoever may still read it sits there and
+/// has not read it.
+fn value_is_sound(
+    tables: &Tables,
+    one_up: u64,
+    audiences: &[u64; MAX_BUSES],
+    counts: &mut [u64; MAX_BUSES],
+    held: &mut [u8; 256],
+) -> bool {
+    let data = one_up.wrapping_sub(1) as usize;
+    if data >= tables.datas.bus.len() || mark(held, data) != 0 {
+        return false;
+    }
+    let bus = tables.datas.bus[data].wrapping_sub(1) as usize;
+    if bus as u64 >= tables.head[BUSES] {
+        return false;
+    }
+    counts[bus] += 1;
+    let readers = tables.datas.readers[data];
+    let (unread, read) = (readers >> SEATS << SEATS, readers << SEATS);
+    (unread & !audiences[bus] | unread & read == 0) & (tables.datas.published[data] <= tables.head[CLOCK])
+}
+
+/// There are so many values; the words of all other data entries are zero.
+fn no_other_values(tables: &Tables, issued: usize) -> bool {
+    let words = tables.datas.readers.iter().zip(&*tables.datas.published);
+    let (values, others) =
+        tables.datas.bus.iter().zip(words).fold((0, 0), |(values, others), (&bus, (readers, published))| {
+            (values + usize::from(bus != 0), others | if bus == 0 { readers | published } else { 0 })
+        });
+    values == issued && others == 0
 }
 
 /// Header, sender and length go together, and what is past the payload is zero.

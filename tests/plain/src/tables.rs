@@ -1,6 +1,6 @@
 //! The two buffers as columns: a slice for each column of docs/LAYOUT.md, in the order of its rows.
 
-use model::limits::{Capacities, LARGEST, SMALLEST};
+use model::limits::{Capacities, LARGEST, MAX_BUSES, MAX_SUBSCRIBERS, SMALLEST};
 
 /// The words before the free bits: six capacities, then these.
 pub const HEAD: usize = 16;
@@ -8,16 +8,32 @@ pub const CLOCK: usize = 6;
 pub const RUNNING: usize = 7;
 pub const QUEUED: usize = 8;
 pub const ARRIVED: usize = 9;
-pub const SPARE: usize = 10;
+pub const ISSUED: usize = 10;
+pub const BUSES: usize = 11;
+pub const SPARE: usize = 12;
 
 /// Words of the free bits of one pool.
 pub const BIT_WORDS: usize = 4;
 pub const ENTRY: usize = 256;
+/// The seats of one bus.
+pub const SEATS: usize = MAX_SUBSCRIBERS as usize;
 
 /// A data entry: header, payload, zeros.
 pub type Entry = [u8; ENTRY];
 /// Free bits, a bit for each entry.
 pub type Bits = [u64; BIT_WORDS];
+/// A word for each bus.
+pub type EachBus = [u64; MAX_BUSES];
+/// The seats of a bus: the slot in each, one up.
+pub type Seats = [u64; SEATS];
+
+pub struct Buses<'a> {
+    pub size: &'a mut EachBus,
+    pub limit: &'a mut EachBus,
+    pub reads: &'a mut EachBus,
+    pub age: &'a mut EachBus,
+    pub seats: &'a mut [Seats; MAX_BUSES],
+}
 
 pub struct Actors<'a> {
     pub state: &'a mut [u64],
@@ -41,6 +57,11 @@ pub struct Mails<'a> {
 pub struct Datas<'a> {
     pub sender: &'a mut [u64],
     pub length: &'a mut [u64],
+    /// What the next three say of a bus's value, and the row of all values.
+    pub bus: &'a mut [u64],
+    pub readers: &'a mut [u64],
+    pub published: &'a mut [u64],
+    pub issue: &'a mut [u64],
     pub entries: &'a mut [Entry],
 }
 
@@ -67,6 +88,7 @@ pub struct Tables<'a> {
     pub head: &'a mut [u64; HEAD],
     pub mail_free: &'a mut Bits,
     pub data_free: &'a mut Bits,
+    pub buses: Buses<'a>,
     pub actors: Actors<'a>,
     pub mails: Mails<'a>,
     pub datas: Datas<'a>,
@@ -88,6 +110,14 @@ impl<'a> Rest<'a> {
     fn bits(&mut self) -> Option<&'a mut Bits> {
         self.column(BIT_WORDS).first_chunk_mut()
     }
+
+    fn each_bus(&mut self) -> Option<&'a mut EachBus> {
+        self.column(MAX_BUSES).first_chunk_mut()
+    }
+
+    fn seats(&mut self) -> Option<&'a mut [Seats; MAX_BUSES]> {
+        self.column(MAX_BUSES * SEATS).as_chunks_mut().0.first_chunk_mut()
+    }
 }
 
 /// Each pool's size, where all are in range.
@@ -99,8 +129,8 @@ pub fn sizes(capacities: &Capacities) -> Option<[usize; 6]> {
 /// How many words and bytes pools of these sizes need.
 pub fn needed(sizes: &[usize; 6]) -> (usize, usize) {
     let [actors, mails, datas, links, monitors, timers] = *sizes;
-    let pools = 10 * actors + 3 * mails + 2 * datas + 2 * links + 3 * monitors + 4 * timers;
-    (HEAD + 2 * BIT_WORDS + pools, ENTRY * datas)
+    let pools = 10 * actors + 3 * mails + 6 * datas + 2 * links + 3 * monitors + 4 * timers;
+    (HEAD + 2 * BIT_WORDS + MAX_BUSES * (4 + SEATS) + pools, ENTRY * datas)
 }
 
 impl<'a> Tables<'a> {
@@ -120,6 +150,8 @@ impl<'a> Tables<'a> {
     fn columns(head: &'a mut [u64; HEAD], mut rest: Rest<'a>, area: &'a mut [u8], sizes: &[usize; 6]) -> Option<Self> {
         let [actors, mails, datas, links, monitors, timers] = *sizes;
         let (mail_free, data_free) = (rest.bits()?, rest.bits()?);
+        let (size, limit, reads, age) = (rest.each_bus()?, rest.each_bus()?, rest.each_bus()?, rest.each_bus()?);
+        let buses = Buses { size, limit, reads, age, seats: rest.seats()? };
         let mut next = |size| rest.column(size);
         let actors = Actors {
             state: next(actors),
@@ -134,10 +166,18 @@ impl<'a> Tables<'a> {
             queue: next(actors),
         };
         let mails = Mails { owner: next(mails), data: next(mails), arrival: next(mails) };
-        let datas = Datas { sender: next(datas), length: next(datas), entries: area.as_chunks_mut().0 };
+        let datas = Datas {
+            sender: next(datas),
+            length: next(datas),
+            bus: next(datas),
+            readers: next(datas),
+            published: next(datas),
+            issue: next(datas),
+            entries: area.as_chunks_mut().0,
+        };
         let links = Links { one: next(links), two: next(links) };
         let monitors = Monitors { watcher: next(monitors), watched: next(monitors), age: next(monitors) };
         let timers = Timers { owner: next(timers), age: next(timers), due: next(timers), interval: next(timers) };
-        Some(Tables { head, mail_free, data_free, actors, mails, datas, links, monitors, timers })
+        Some(Tables { head, mail_free, data_free, buses, actors, mails, datas, links, monitors, timers })
     }
 }

@@ -5,7 +5,7 @@
 //! times as long, or more than another number that is given.
 //!
 //! How full the pools are: `empty`, but for the actor that runs; `one of each`, an actor with a timer, a link, a monitor, a message in its hand and
-//! one in its mailbox, and two actors more; `one left`, all pools full but for one entry of each; `full`.
+//! one in its mailbox, and a bus that it can read from, and two actors more; `one left`, all pools full but for one entry of each; `full`.
 
 mod rounds;
 mod sides;
@@ -92,6 +92,11 @@ fn every_call(capacities: Capacities, stranger: u64) -> Vec<Call> {
         Call::Exit(0),
         Call::Advance(1_000),
         Call::Report,
+        Call::Bus(4, 4, 0, 0),
+        Call::Publish(0, 8),
+        Call::Subscribe(0),
+        Call::Unsubscribe(0),
+        Call::Read(0),
     ]
 }
 
@@ -126,6 +131,12 @@ fn print_worst_calls() {
     row(&worst::match_is_last(), "the match is the last of 256 messages", receive(1));
     row(&worst::match_is_last(), "no match among 256 messages", receive(2));
     row(&worst::all_queued(), "64 actors queued", Call::Next);
+    let buses = "32 buses, 1,024 subscriptions, 256 entries";
+    let full = worst::buses_full();
+    for call in [Call::Publish(15, 8), Call::Read(15), Call::Unsubscribe(15), Call::Exit(0)] {
+        row(&full, buses, call);
+    }
+    row(&worst::buses_aged(), "32 buses, 256 entries at their age", Call::Advance(1_000));
 }
 
 /// A call that tests the buffers and then is refused.
@@ -135,6 +146,7 @@ fn print_pure_test() {
         row(&Stage::empty(capacities), "empty", Call::Cancel(1));
         row(&Stage::full(capacities, 0), "full", Call::Cancel(1));
     }
+    row(&worst::buses_full(), "32 buses, 1,024 subscriptions, 256 entries", Call::Cancel(1));
 }
 
 /// The bench run alone; fails where the library takes more than so many times as long as plain Rust.

@@ -11,7 +11,7 @@ const CRASH: u64 = 65_533;
 /// A call and the number that it must answer.
 type Step = (Call, u64);
 
-/// Every pool is full; the first actor runs.
+/// Every pool is full; the first actor runs, and is subscribed to a bus.
 pub fn stage() -> Stage {
     Stage::full(LARGEST, 0)
 }
@@ -25,11 +25,12 @@ fn refused() -> Vec<Step> {
         (Call::After(1_000), NO_ROOM),
         (Call::Monitor(Stage::id(1)), NO_ROOM),
         (Call::Link(Stage::id(9)), NO_ROOM),
+        (Call::Publish(0, 8), NO_ROOM),
     ]
 }
 
-/// It takes messages and sends one; its timer, its monitor and a link end and begin again, so that the pools are full again; the clock
-/// moves, and the turn is handed on.
+/// It takes messages, reads what it publishes on a bus of its own, which ends with that read, and sends a message; its timer, its monitor and a link end
+/// and begin again, so that the pools are full again; the clock moves, and the turn is handed on.
 fn day() -> Vec<Step> {
     let (me, other) = (Stage::id(0), Stage::id(1));
     let calls = [
@@ -37,6 +38,11 @@ fn day() -> Vec<Step> {
         receive_any(),
         Call::Shown,
         receive_any(),
+        Call::Bus(1, 1, 1, 0),
+        Call::Subscribe(1),
+        Call::Publish(1, 8),
+        Call::Read(1),
+        Call::Unsubscribe(1),
         Call::Notify(me, 3, 100),
         Call::Cancel(TIMER_FACTOR),
         Call::Every(1_000_000),

@@ -1,11 +1,14 @@
 //! The two sides: the library and plain Rust, as tables of functions in C of equal form. A call is made through such a table, so nothing
 //! is compiled into its caller on either side.
 
+use crate::stage::Buffers;
 use model::limits::Capacities;
-use model::{Advanced, Ended, Made, Received, Report, Shown, Turn};
+use model::{Advanced, Copied, Ended, Made, Received, Report, Shown, Turn};
 
 type Start = unsafe extern "C" fn(*mut u64, usize, *mut u8, usize, u64, u64, u64, u64, u64, u64) -> u64;
 type Notify = unsafe extern "C" fn(*mut u64, usize, *mut u8, usize, u64, u64, *const u8, usize) -> u64;
+type Publish = unsafe extern "C" fn(*mut u64, usize, *mut u8, usize, u64, *const u8, usize) -> u64;
+type Read = unsafe extern "C" fn(*mut u64, usize, *mut u8, usize, u64, *mut u8, usize) -> Copied;
 
 /// What the payload of every message begins with.
 const PAYLOAD: [u8; 252] = [0x5A; 252];
@@ -21,6 +24,7 @@ pub enum Answer {
     Ended(Ended),
     Advanced(Advanced),
     Report(Report),
+    Copied(Copied),
 }
 
 macro_rules! answers {
@@ -43,7 +47,7 @@ macro_rules! answers {
     };
 }
 
-answers!(Made Turn Received Shown Ended Advanced Report);
+answers!(Made Turn Received Shown Ended Advanced Report Copied);
 
 impl From<u64> for Answer {
     fn from(no: u64) -> Answer {
@@ -67,6 +71,12 @@ macro_rules! calls {
                 pub fn fg_notify(
                     t: *mut u64, t_len: usize, p: *mut u8, p_len: usize, target: u64, tag: u64, payload: *const u8, len: usize,
                 ) -> u64;
+                pub fn fg_publish(
+                    t: *mut u64, t_len: usize, p: *mut u8, p_len: usize, bus: u64, payload: *const u8, len: usize,
+                ) -> u64;
+                pub fn fg_read(
+                    t: *mut u64, t_len: usize, p: *mut u8, p_len: usize, bus: u64, out: *mut u8, len: usize,
+                ) -> Copied;
                 $(pub fn $c(t: *mut u64, t_len: usize, p: *mut u8, p_len: usize $($(, $arg: $ty)*)?) -> $answer;)*
             }
         }
@@ -76,6 +86,8 @@ macro_rules! calls {
             pub name: &'static str,
             start: Start,
             notify: Notify,
+            publish: Publish,
+            read: Read,
             $($plain: unsafe extern "C" fn(*mut u64, usize, *mut u8, usize $($(, $ty)*)?) -> $answer,)*
         }
 
@@ -83,6 +95,8 @@ macro_rules! calls {
             name: "plain",
             start: plain::boundary::start,
             notify: plain::boundary::notify,
+            publish: plain::boundary::publish,
+            read: plain::boundary::read,
             $($plain: plain::boundary::$plain,)*
         };
 
@@ -91,6 +105,8 @@ macro_rules! calls {
             name: "library",
             start: library::fg_start,
             notify: library::fg_notify,
+            publish: library::fg_publish,
+            read: library::fg_read,
             $($plain: library::$c,)*
         };
 
@@ -99,14 +115,18 @@ macro_rules! calls {
             name: "plain again",
             start: plain::boundary::start,
             notify: plain::boundary::notify,
+            publish: plain::boundary::publish,
+            read: plain::boundary::read,
             $($plain: plain::boundary::$plain,)*
         };
 
-        /// A call as a value. A message is of so many bytes.
+        /// A call as a value. A message, or what is published, is of so many bytes.
         #[derive(Debug, Clone, Copy)]
         pub enum Call {
             Start(Capacities),
             Notify(u64, u64, usize),
+            Publish(u64, usize),
+            Read(u64),
             $($call $(($($ty),*))?,)*
         }
 
@@ -116,15 +136,18 @@ macro_rules! calls {
                 match self {
                     Call::Start(_) => "start",
                     Call::Notify { .. } => "notify",
+                    Call::Publish { .. } => "publish",
+                    Call::Read { .. } => "read",
                     $(Call::$call { .. } => &stringify!($c)[3..],)*
                 }
             }
 
             /// Makes the call on one side.
             #[inline]
-            pub fn make(&self, side: &Side, words: &mut [u64], bytes: &mut [u8]) -> Answer {
+            pub fn make(&self, side: &Side, buffers: &mut Buffers) -> Answer {
+                let (words, bytes, out) = (&mut buffers.words[..], &mut buffers.bytes[..], &mut buffers.out[..]);
                 let (t, t_len, p, p_len) = (words.as_mut_ptr(), words.len(), bytes.as_mut_ptr(), bytes.len());
-                // SAFETY: pointers and lengths come from three live slices that do not overlap.
+                // SAFETY: pointers and lengths come from live slices that do not overlap.
                 unsafe {
                     match *self {
                         Call::Start([a, m, d, l, w, e]) => (side.start)(t, t_len, p, p_len, a, m, d, l, w, e).into(),
@@ -132,6 +155,11 @@ macro_rules! calls {
                             let payload = &PAYLOAD[..length];
                             (side.notify)(t, t_len, p, p_len, target, tag, payload.as_ptr(), payload.len()).into()
                         }
+                        Call::Publish(bus, length) => {
+                            let payload = &PAYLOAD[..length];
+                            (side.publish)(t, t_len, p, p_len, bus, payload.as_ptr(), payload.len()).into()
+                        }
+                        Call::Read(bus) => (side.read)(t, t_len, p, p_len, bus, out.as_mut_ptr(), out.len()).into(),
                         $(Call::$call $(($($arg),*))? => (side.$plain)(t, t_len, p, p_len $($(, $arg)*)?).into(),)*
                     }
                 }
@@ -156,4 +184,7 @@ calls! {
     Exit(reason: u64) = fg_exit, exit -> Ended;
     Advance(us: u64) = fg_advance, advance -> Advanced;
     Report = fg_report, report -> Report;
+    Bus(entries: u64, subscribers: u64, reads: u64, age_ms: u64) = fg_bus, bus -> Made;
+    Subscribe(bus: u64) = fg_subscribe, subscribe -> u64;
+    Unsubscribe(bus: u64) = fg_unsubscribe, unsubscribe -> u64;
 }

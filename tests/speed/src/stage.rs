@@ -4,11 +4,12 @@ use crate::sides::{Answer, Call, LIBRARY, PLAIN};
 use model::limits::*;
 use model::{DONE, WAITING};
 
-/// The two lent buffers.
+/// The two lent buffers, and the slice that a read writes to.
 #[derive(Clone, PartialEq)]
 pub struct Buffers {
     pub words: Vec<u64>,
     pub bytes: Vec<u8>,
+    pub out: Vec<u8>,
 }
 
 impl Buffers {
@@ -16,12 +17,13 @@ impl Buffers {
     fn patterned(capacities: &Capacities) -> Self {
         let sizes = plain::sizes(capacities).expect("capacities are in range");
         let (words, bytes) = plain::needed(&sizes);
-        Buffers { words: vec![u64::MAX; words], bytes: vec![0xFF; bytes] }
+        Buffers { words: vec![u64::MAX; words], bytes: vec![0xFF; bytes], out: vec![0; MAX_PAYLOAD] }
     }
 
     pub fn copy_from(&mut self, other: &Buffers) {
         self.words.copy_from_slice(&other.words);
         self.bytes.copy_from_slice(&other.bytes);
+        self.out.copy_from_slice(&other.out);
     }
 }
 
@@ -42,8 +44,8 @@ impl Stage {
     /// Makes a call on both sides: answer, words and bytes must be the same.
     pub fn make(&mut self, call: Call) -> Answer {
         let mut other = self.buffers.clone();
-        let answer = call.make(&LIBRARY, &mut self.buffers.words, &mut self.buffers.bytes);
-        let again = call.make(&PLAIN, &mut other.words, &mut other.bytes);
+        let answer = call.make(&LIBRARY, &mut self.buffers);
+        let again = call.make(&PLAIN, &mut other);
         assert_eq!(answer, again, "{call:?}: {} answers the first, {} the second", LIBRARY.name, PLAIN.name);
         assert!(self.buffers == other, "{call:?}: {} and {} leave different buffers", LIBRARY.name, PLAIN.name);
         answer
@@ -103,7 +105,14 @@ impl Stage {
         Stage::with_actors(capacities, 1)
     }
 
-    /// Three actors; the first runs, and has a message in hand and one in its mailbox, a timer, and a link with the second and a monitor on it.
+    /// A bus, to which the running actor is subscribed.
+    fn bus(&mut self) {
+        self.done(Call::Bus(4, 4, 0, 0));
+        self.done(Call::Subscribe(0));
+    }
+
+    /// Three actors; the first runs, and has a message in hand and one in its mailbox, a timer, a link with the second and a monitor on it, and a bus
+    /// to read from.
     pub fn few(capacities: Capacities) -> Self {
         let mut stage = Stage::with_actors(capacities, 3);
         let (me, other) = (Stage::id(0), Stage::id(1));
@@ -113,11 +122,13 @@ impl Stage {
         stage.done(Call::Notify(me, 1, 8));
         stage.done(Call::Notify(me, 2, 8));
         stage.done(receive_any());
+        stage.bus();
+        stage.done(Call::Publish(0, 8));
         stage
     }
 
     /// Every pool is full but for `left` entries: messages of many lengths in all mailboxes and in some hands, some actors waiting, links,
-    /// monitors and timers of all. The first actor runs.
+    /// monitors and timers of all, and a bus on which nothing stands. The first actor runs.
     pub fn full(capacities: Capacities, left: u64) -> Self {
         let [actors, mailboxes, data, ..] = capacities;
         let mut stage = Stage::with_actors(capacities, actors - left);
@@ -138,6 +149,7 @@ impl Stage {
             stage.give_way(slot);
         }
         stage.expect_free([left; 5]);
+        stage.bus();
         stage
     }
 

@@ -59,10 +59,9 @@ pub fn measure(stage: &Stage, calls: &[Call], effort: &Effort) -> Times {
 /// One sample: all calls by one side.
 #[inline(never)]
 fn nanoseconds(stage: &mut Stage, side: &Side, calls: &[Call]) -> f64 {
-    let (words, bytes) = (&mut stage.buffers.words[..], &mut stage.buffers.bytes[..]);
     let began = Instant::now();
     for call in calls {
-        black_box(call.make(side, words, bytes));
+        black_box(call.make(side, &mut stage.buffers));
     }
     began.elapsed().as_nanos() as f64
 }

@@ -86,3 +86,37 @@ pub fn all_queued() -> Stage {
     stage.done(Call::Yield);
     stage
 }
+
+/// Fills the first 16 buses, which takes all data entries.
+fn publish_all(stage: &mut Stage) {
+    for number in 0..LARGEST[2] {
+        stage.done(Call::Publish(number / MAX_BUS_ENTRIES, 8 + (number % 200) as usize));
+    }
+}
+
+/// Half of all actors are subscribed to all buses, and every data entry is a bus's. The first actor runs, which has read nothing.
+pub fn buses_full() -> Stage {
+    let mut stage = Stage::with_actors(LARGEST, LARGEST[0]);
+    for _ in 0..MAX_BUSES {
+        stage.done(Call::Bus(MAX_BUS_ENTRIES, MAX_SUBSCRIBERS, 0, 0));
+    }
+    for slot in 0..LARGEST[0] {
+        for bus in (0..MAX_BUSES as u64).filter(|_| slot < MAX_SUBSCRIBERS) {
+            stage.done(Call::Subscribe(bus));
+        }
+        stage.turn();
+    }
+    publish_all(&mut stage);
+    stage.expect_free([0, 0, LARGEST[3], LARGEST[4], LARGEST[5]]);
+    stage
+}
+
+/// Every data entry is a bus's and ends in a millisecond.
+pub fn buses_aged() -> Stage {
+    let mut stage = Stage::with_actors(LARGEST, 1);
+    for _ in 0..MAX_BUSES {
+        stage.done(Call::Bus(MAX_BUS_ENTRIES, MAX_SUBSCRIBERS, 0, 1));
+    }
+    publish_all(&mut stage);
+    stage
+}
