@@ -107,7 +107,7 @@ fn end(t: &mut [u64], p: &mut [u8]) {
 
 fn main() {
     let mut area = [0; 65536];
-    let mut table = [0u64; 4096];
+    let mut table = [0u64; 6144];
     run(&mut table, &mut area);
     end(&mut table, &mut area);
 }
