@@ -1,4 +1,5 @@
 -- Laws that belong to no one function.
 pub mod ActionLaws
+pub mod BusLaws
 pub mod TimeLaws
 pub mod DropLaws

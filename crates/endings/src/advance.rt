@@ -1,4 +1,4 @@
-// Advance: the clock is raised, due timers fire, and the overdue wake.
+// Advance: the clock is raised, due timers fire, the overdue wake, and what has reached its age ends.
 ghost use mathlib.Core.Path.{_≡_};
 ghost use mathlib.Core.Bool.{true};
 ghost use Prim.Native.Nat.{_≤_, _<_};
@@ -13,6 +13,7 @@ ghost use Rattle.rules.specs.Host.{Gives};
 ghost use Rattle.endings.specs.Asked.{Short, Fires, Raised};
 ghost use Rattle.endings.specs.Order.{Waiting};
 use crate::order::due_timers;
+use actions::airing::air_all;
 use actions::messages::post;
 use actions::room::has_room;
 use actions::running::wake;
@@ -107,7 +108,7 @@ fn rouse(t: &mut [u64], p: &[u8], k: Caps)
     }
 }
 
-// ---- both
+// ---- all of it
 // The clock is raised. 1: by too much, or past its end.
 pub fn advance_in(t: &mut [u64], p: &mut [u8], k: Caps, micros: u64) -> Advanced
     requires { ⌜ Ready k (now t) (now p) ⌝ }
@@ -123,5 +124,6 @@ pub fn advance_in(t: &mut [u64], p: &mut [u8], k: Caps, micros: u64) -> Advanced
     put(t, p, k, CLOCK, 0, clock);
     let fired = fire_all(t, p, k);
     rouse(t, p, k);
+    air_all(t, p, k);
     Advanced { no: 0, fired }
 }

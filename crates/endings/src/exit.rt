@@ -15,6 +15,7 @@ ghost use Rattle.endings.specs.Stepwise.{Midway, STEPS, stepAt};
 use crate::leaving::clear;
 use crate::leaving::drop_monitors;
 use crate::leaving::drop_timers;
+use crate::leaving::quit_buses;
 use crate::leaving::vacate;
 use crate::notices::Count;
 use crate::notices::cut_links;
@@ -28,7 +29,7 @@ use tables::limits::LAST_REASON;
 use tables::words::get;
 
 // How many steps an end has.
-const STEPS: u64 = 5;
+const STEPS: u64 = 6;
 
 // Step i of the end of slot a, whose id is me: an arm for each step.
 fn step(t: &mut [u64], p: &mut [u8], k: Caps, i: u64, a: u64, me: u32, reason: u16) -> Count
@@ -41,6 +42,7 @@ fn step(t: &mut [u64], p: &mut [u8], k: Caps, i: u64, a: u64, me: u32, reason: u
         2 => cut_monitors(t, p, k, a, me, reason),
         3 => drop_monitors(t, p, k, a),
         4 => drop_timers(t, p, k, a),
+        5 => quit_buses(t, p, k, a),
         _ => Count { sent: 0, lost: 0 },
     }
 }

@@ -1,15 +1,17 @@
-// What an actor that ends owns goes with it: its hand and its mailbox, its monitors, its timers, its slot. No notice is sent.
+// What an actor that ends owns goes with it: its hand and its mailbox, its monitors, its timers, its subscriptions, its slot. No notice is sent.
 ghost use mathlib.Core.Bool.{cond};
 ghost use Prim.Native.Nat.{suc, _≤_, _<_};
 ghost use lib.Dec.{eqb};
-ghost use Rattle.tables.specs.Columns.{ARRIVED, TIMER-OWNER, WATCHER};
+ghost use Rattle.tables.specs.Columns.{ARRIVED, BUSES, TIMER-OWNER, WATCHER};
 ghost use Rattle.tables.specs.Limits.{SAFE};
 ghost use Rattle.tables.specs.State.{at, head, Room, Of, RoomWith, Makes};
+ghost use Rattle.rules.specs.Buses.{leaveBuses};
 ghost use Rattle.rules.specs.Calls.{disarm, dropMonitors, dropTimers, unwatch, emptied, told, vacate};
 ghost use Rattle.actions.specs.Standing.{Standing};
 ghost use Rattle.endings.specs.Counted.{Counted};
 use crate::notices::Count;
 use actions::dropping::drop_all;
+use actions::leaving::leave_buses;
 use actions::messages::let_go;
 use actions::monitors::unwatch;
 use actions::running::loosen;
@@ -78,6 +80,15 @@ pub fn drop_timers(t: &mut [u64], p: &[u8], k: Caps, a: u64) -> Count
         drop_timer(t, p, k, a, i);
         i += 1;
     }
+    Count { sent: 0, lost: 0 }
+}
+
+// All subscriptions of slot a end.
+pub fn quit_buses(t: &mut [u64], p: &[u8], k: Caps, a: u64) -> Count
+    requires { ⌜ RoomWith k (λ s. (a < SAFE) × (head s BUSES ≤ SAFE)) (now t) (now p) ⌝ }
+    ensures { λ r. ⌜ Counted k (λ s. told 0 0 (leaveBuses k a (head s BUSES) s)) (now (t .entry)) (now (p .entry)) r (now (t .exit)) (now (p .entry)) ⌝ }
+{
+    leave_buses(t, p, k, a);
     Count { sent: 0, lost: 0 }
 }
 

@@ -2,7 +2,7 @@
 ghost use mathlib.Core.Path.{_≡_};
 ghost use Prim.Native.Nat.{_<_, _^_};
 ghost use Rattle.pools.specs.Pool.{lowest, count};
-ghost use Rattle.pools.specs.Bits.{WORD-BITS, bit, free, taken, released};
+ghost use Rattle.pools.specs.Bits.{WORD-BITS, bit, cleared, marked, free, taken, released};
 
 // The bits of a word.
 pub const WORD_BITS: usize = 64;
@@ -23,6 +23,22 @@ pub fn bit_of(x: u64, k: usize) -> u64
     (x >> k) % 2
 }
 
+// x with bit k clear; the other bits stay.
+pub fn cleared(x: u64, k: usize) -> u64
+    requires { ⌜ k < WORD-BITS ⌝ }
+    ensures { λ r. ⌜ r ≡ cleared x k ⌝ }
+{
+    x & !power(k)
+}
+
+// x with bit k set; the other bits stay.
+pub fn marked(x: u64, k: usize) -> u64
+    requires { ⌜ k < WORD-BITS ⌝ }
+    ensures { λ r. ⌜ r ≡ marked x k ⌝ }
+{
+    x | power(k)
+}
+
 // Is entry i free? Past the last word none is.
 pub fn is_free(w: &[u64], i: usize) -> bool
     ensures { λ r. ⌜ r ≡ free (now (w .entry)) i ⌝ }
@@ -39,7 +55,7 @@ pub fn take(w: &mut [u64], i: usize)
 {
     if i / WORD_BITS < w.len() {
         let x = w[i / WORD_BITS];
-        w[i / WORD_BITS] = x & !power(i % WORD_BITS);
+        w[i / WORD_BITS] = cleared(x, i % WORD_BITS);
     }
 }
 
@@ -49,7 +65,7 @@ pub fn release(w: &mut [u64], i: usize)
 {
     if i / WORD_BITS < w.len() {
         let x = w[i / WORD_BITS];
-        w[i / WORD_BITS] = x | power(i % WORD_BITS);
+        w[i / WORD_BITS] = marked(x, i % WORD_BITS);
     }
 }
 

@@ -2,7 +2,7 @@
 ghost use mathlib.Core.Path.{_≡_};
 ghost use Prim.Native.Nat.{_+_, _*_, _≤_, _<_, _^_};
 ghost use lib.ListN.{length, getD};
-ghost use Rattle.pools.specs.Pool.{lowest, count};
+ghost use Rattle.pools.specs.Pool.{lowest, count, occurs};
 ghost use Rattle.pools.specs.Slot.{idOf, unused, usable, aged, isLive};
 
 // Word i; 0 past the end.
@@ -39,6 +39,20 @@ pub fn count_unused(words: &[u64]) -> usize
     let mut i = 0;
     while i < n {
         c += (words[i] == 0) as usize;
+        i += 1;
+    }
+    c
+}
+
+// How often e stands among the words.
+pub fn count_equal(words: &[u64], e: u64) -> usize
+    ensures { λ r. ⌜ r ≡ occurs e (now (words .entry)) ⌝ }
+{
+    let n = words.len();
+    let mut c: usize = 0;
+    let mut i = 0;
+    while i < n {
+        c += (words[i] == e) as usize;
         i += 1;
     }
     c

@@ -1,4 +1,5 @@
 -- Laws that belong to no one function.
+pub mod BusLaws
 pub mod JoinLaws
 pub mod SlotLaws
 pub mod StandingLaws
@@ -8,6 +9,7 @@ pub mod ListLaws
 pub mod MailLaws
 pub mod MarkLaws
 pub mod PairLaws
+pub mod ValueLaws
 pub mod WordLaws
 pub mod ZeroLaws
 pub mod Exactly

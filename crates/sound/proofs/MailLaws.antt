@@ -15,7 +15,7 @@ use Rattle.rules.specs.Rule.{Rule, test, each, both, imp, le, eq}
 use Rattle.rules.proofs.Kept.Rules.{all-more, reads}
 use Rattle.rules.specs.Sound.{slotRule, arrivalRule, boxRule, dataRule, linkRule, plainRules, acrossRules}
 use Rattle.rules.specs.Terms.{WAITS, alive, awaits}
-use Rattle.sound.specs.Kinds.{keepRule, keptRule, frontRules, bitRules, boxRules, dataRules, timeRules, filterRules, pairRules, countRules, earlyRules}
+use Rattle.sound.specs.Kinds.{keepRule, keptRule, frontRules, boxRules, dataRules, filterRules, pairRules, countRules, earlyRules, bodyRules}
 use Rattle.sound.specs.Standing.{Standing, livesIn, waitsIn}
 use Rattle.sound.proofs.ListLaws.{same-rule}
 use Rattle.sound.proofs.MarkLaws.{of-ones}
@@ -111,19 +111,16 @@ module _ (k : Caps) (s : State) where
       (λ (datas, (links, pairs)). ((datas, links), pairs))
 
   -- ---- all rules, in the order that they are tested in
-  abbrev pub plainTested : Rule
-  plainTested = both (frontRules k s) (both (bitRules k s) (both (both (boxRules k s) (filterRules k s)) (both (both (dataRules k s) (pairRules k s)) (timeRules k s))))
-
-  pub plain-parts : test plainTested ≡ test (earlyRules k s)
+  pub plain-parts : test (both (frontRules k s) (bodyRules k s)) ≡ test (earlyRules k s)
   unfolding plainRules
   plain-parts =
-      same-rule (earlyRules k s) plainTested
-      (λ ((front, (bits, (boxes, (datas, times)))), (filters, pairs)). (front, (bits, ((boxes, filters), ((datas, pairs), times)))))
-      (λ (front, (bits, ((boxes, filters), ((datas, pairs), times)))). ((front, (bits, (boxes, (datas, times)))), (filters, pairs)))
+      same-rule (earlyRules k s) (both (frontRules k s) (bodyRules k s))
+      (λ ((front, (bits, (boxes, (datas, (times, (buses, values)))))), ((filters, pairs), issued)). (front, (bits, ((boxes, filters), ((datas, pairs), (times, (buses, (values, issued))))))))
+      (λ (front, (bits, ((boxes, filters), ((datas, pairs), (times, (buses, (values, issued))))))). ((front, (bits, (boxes, (datas, (times, (buses, values)))))), ((filters, pairs), issued)))
 
   pub late-parts : test (both (earlyRules k s) (countRules k s)) ≡ test (both (plainRules k s) (acrossRules k s))
   unfolding acrossRules
   late-parts =
       same-rule (both (plainRules k s) (acrossRules k s)) (both (earlyRules k s) (countRules k s))
-      (λ (plain, (exact, (held, (pairs, filters)))). ((plain, (filters, pairs)), (exact, held)))
-      (λ ((plain, (filters, pairs)), (exact, held)). (plain, (exact, (held, (pairs, filters)))))
+      (λ (plain, (exact, (issued, (held, (pairs, filters))))). ((plain, ((filters, pairs), issued)), (exact, held)))
+      (λ ((plain, ((filters, pairs), issued)), (exact, held)). (plain, (exact, (issued, (held, (pairs, filters))))))

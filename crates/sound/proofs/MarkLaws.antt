@@ -9,11 +9,11 @@ use mathlib.Core.Bool.{Bool, true, false, not, _&&_}
 use mathlib.Core.List.{List, [], _∷_, _++_}
 use mir.Val.{boolByte}
 use lib.Bits.{bitAnd, bitOr, and-mask, or-shifted-r}
-use lib.Dec.{eqb, lit<}
+use lib.Dec.{eqb, lit<, ltb}
 use lib.ListN.{length, getD, set, take, drop, length-take, length-drop, take-append-drop}
 use lib.Pow.{pow-pos, high, shl-exact, mod-pow-add}
 use lib.Seq.{take-suc, take-all, take-add, drop-drop, getD-take, getD-drop}
-use borrow.Author.Tests.{eqb-true, eqb-false, eq-eqb, ne-eqb, not-true, not-false}
+use borrow.Author.Tests.{eqb-true, eqb-false, eq-eqb, ltb-false, ltb-true, ne-eqb, not-true, not-false}
 use Rattle.pools.specs.Bits.{WORD-BITS, bit, free, released}
 use Rattle.pools.specs.Pool.{occurs}
 use Rattle.pools.proofs.MaskLaws.{and-bit, or-mark}
@@ -23,16 +23,16 @@ use Rattle.pools.proofs.FreeLaws.{released-same, released-other, length-release
 use Rattle.pools.proofs.ListLaws.{occurs-append, occurs-snoc, occurs-place}
 use Rattle.rules.specs.Rule.{test, both, each, eq, is, lt, le, imp, Holds}
 use Rattle.rules.specs.Terms.{RUNNABLE}
-use Rattle.rules.specs.Sound.{OWNERS, headRule, held, slotRule, boxRule, onceRule, arrivedRule, heldRule, plainRules}
+use Rattle.rules.specs.Sound.{OWNERS, headRule, held, slotRule, boxRule, issueRule, onceRule, arrivedRule, heldRule, plainRules}
 use Rattle.rules.proofs.Frames.Wrote.{All}
 use Rattle.rules.proofs.Kept.Owners.{Names, all-sole, held-few, owners-name, sole}
 use Rattle.rules.proofs.Kept.Rules.{reads, same-test, and-same}
 use Rattle.tables.specs.declared.Caps.{Caps}
-use Rattle.tables.specs.Columns.{ARRIVAL, ARRIVED, DATA-FREE, MAIL-DATA, MAIL-FREE, QUEUE, QUEUED, STATE, REST}
+use Rattle.tables.specs.Columns.{ARRIVAL, ARRIVED, DATA-FREE, ISSUE, ISSUED, MAIL-DATA, MAIL-FREE, QUEUE, QUEUED, STATE, REST}
 use Rattle.tables.specs.Sizes.{BIT-WORDS, COLUMN-BITS}
 use Rattle.tables.specs.State.{State, at, head, size, view, Room}
 use Rattle.tables.proofs.ViewLaws.{view-full}
-use Rattle.sound.specs.Marks.{Added, AddedBoth, Below, OTHERS, Resting, fullRule}
+use Rattle.sound.specs.Marks.{Added, AddedBoth, Below, Ended, Flags, OTHERS, Resting, fullRule}
 use Rattle.sound.proofs.WordLaws.{free-at}
 use Rattle.sound.proofs.ListLaws.{same-rule}
 
@@ -118,7 +118,7 @@ pub both-as : {c c₂ d d₂ : ℕ → ℕ} {r : Bool} {s s′ h h′ : List ℕ
 both-as f g a = record { inSeen = a .inSeen; inHeld = a .inHeld; telling = a .telling; addedSeen = added-as f (a .addedSeen); addedHeld = added-as g (a .addedHeld) }
 
 -- ---- the words of a list, one after the other
-occurs-more : (list : List ℕ) (i a : ℕ) → i < length list → occurs a (take (i + 1) list) ≡ occurs a (take i list) + boolByte (eqb (getD list i 0) a)
+pub occurs-more : (list : List ℕ) (i a : ℕ) → i < length list → occurs a (take (i + 1) list) ≡ occurs a (take i list) + boolByte (eqb (getD list i 0) a)
 occurs-more list i a h = rw (add-one i, take-suc list i 0 h, occurs-snoc a (take i list) (getD list i 0))
 
 occurs-none : (a : ℕ) (list : List ℕ) → occurs a (take 0 list) ≡ 0
@@ -174,6 +174,14 @@ pub both-rest : (n : ℕ) (entries : List ℕ) {c : ℕ → ℕ} {r x : Bool} {s
     AddedBoth c (λ d. occurs (suc d) entries) (r && x) s s′ h h″
 both-rest n entries a b = both-as (λ e. refl) (λ e. sym (occurs-parts (suc e) n entries)) (both-then a b)
 
+-- words of 0 name no entry
+pub zero-names : (list : List ℕ) → ((i : ℕ) → i < length list → getD list i 0 ≡ 0) → (d : ℕ) → occurs (suc d) list ≡ 0
+zero-names list h d =
+    elim (decLt 0 (occurs (suc d) list)) [
+      | yes m ↦ let o = occurs-place (suc d) list m in absurd (omega (arith, o .2, h (o .0) (o .1)))
+      | no m ↦ omega arith
+    ]
+
 -- a part of a list
 module _ (list : List ℕ) (from to : ℕ) where
   part-at : (i : ℕ) → i < length (take (to - from) (drop from list)) → (from + i < to) × (from + i < length list) × (getD (take (to - from) (drop from list)) i 0 ≡ getD list (from + i) 0)
@@ -184,16 +192,22 @@ module _ (list : List ℕ) (from to : ℕ) where
   pub part-below : (m : ℕ) → Below m (length list) list → Below m (length (take (to - from) (drop from list))) (take (to - from) (drop from list))
   part-below m b i l = let e = part-at i l in omega (arith, e .2, b (from + i) (e .1))
 
-  -- words of 0 name no entry
+  -- where its words are 0 it names no entry
   pub part-none : (seen : List ℕ) → true ≡ test (each to (λ i. imp (le from i) (eq (getD list i 0) 0))) → Added (λ d. occurs (suc d) (take (to - from) (drop from list))) true seen seen
-  part-none seen t = added-none seen (λ d.
-      elim (decLt 0 (occurs (suc d) (take (to - from) (drop from list)))) [
-        | yes m ↦ let o = occurs-place (suc d) (take (to - from) (drop from list)) m in
-            let e = part-at (o .0) (o .1) in
-            let h = reads (each to (λ i. imp (le from i) (eq (getD list i 0) 0))) .0 (sym t) (from + o .0) (e .0) (omega arith) in
-            absurd (omega (arith, h, e .2, o .2))
-        | no m ↦ omega arith
-      ])
+  part-none seen t = added-none seen (zero-names (take (to - from) (drop from list)) (λ i l.
+      let e = part-at i l in
+      e .2 ∙ reads (each to (λ i. imp (le from i) (eq (getD list i 0) 0))) .0 (sym t) (from + i) (e .0) (omega arith)))
+
+-- where the words are 0 from the n-th on
+ended-none : (list : List ℕ) (n : ℕ) → Ended n list → (d : ℕ) → occurs (suc d) (drop n list) ≡ 0
+ended-none list n h = zero-names (drop n list) (λ i l. getD-drop n list i 0 ∙ h (n + i) (omega arith) (omega (arith, length-drop n list)))
+
+-- so the first n name all
+pub first-all : (list : List ℕ) (n : ℕ) {r : Bool} {s s′ : List ℕ} → Ended n list → Added (λ d. occurs (suc d) (take (n - 0) (drop 0 list))) r s s′ → Added (λ d. occurs (suc d) list) r s s′
+first-all list n h a = added-as (λ d.
+    let z : n - 0 ≡ n = omega arith in
+    let e : occurs (suc d) (take (n - 0) (drop 0 list)) ≡ occurs (suc d) (take n list) = ap (λ (m : ℕ). occurs (suc d) (take m list)) z in
+    omega (arith, e, occurs-parts (suc d) n list, ended-none list n h d)) a
 
 -- one part after the other, from the n-th word on
 module _ (list : List ℕ) (n : ℕ) where
@@ -259,26 +273,22 @@ module _ (word i x : ℕ) (b : word < 2 ^ i) (f : x ≤ 1) where
         | no n ↦ let o : x ≡ 1 = omega arith in rw o (omega (arith, one-mul (2 ^ i), pow-suc 2 i))
       ])
 
--- the slots that are not runnable, one more
-module _ (states : List ℕ) (i word : ℕ) (l : i < WORD-BITS) (b : word < 2 ^ i) where
-  abbrev rests : ℕ
-  rests = boolByte (not (eqb (getD states i 0) RUNNABLE))
+-- the bits of those that pass a test, one more
+module _ (f : ℕ → Bool) (i word : ℕ) (l : i < WORD-BITS) (b : word < 2 ^ i) where
+  flag-sum : bitOr word (boolByte (f i) * 2 ^ i % 2 ^ WORD-BITS) ≡ boolByte (f i) * 2 ^ i + word
+  flag-sum =
+      let e : boolByte (f i) * 2 ^ i % 2 ^ WORD-BITS ≡ boolByte (f i) * 2 ^ i = shl-exact 1 i WORD-BITS (omega (arith, flag≤ (f i))) (omega arith) in
+      rw e (or-shifted-r (boolByte (f i)) i word b)
 
-  rest-sum : bitOr word (rests * 2 ^ i % 2 ^ WORD-BITS) ≡ rests * 2 ^ i + word
-  rest-sum =
-      let e : rests * 2 ^ i % 2 ^ WORD-BITS ≡ rests * 2 ^ i = shl-exact 1 i WORD-BITS (omega (arith, flag≤ (not (eqb (getD states i 0) RUNNABLE)))) (omega arith) in
-      rw e (or-shifted-r rests i word b)
+  pub flag-fits : bitOr word (boolByte (f i) * 2 ^ i % 2 ^ WORD-BITS) < 2 ^ (i + 1)
+  flag-fits = rw flag-sum (top-fits word i (boolByte (f i)) b (flag≤ (f i)))
 
-  pub rest-fits : bitOr word (rests * 2 ^ i % 2 ^ WORD-BITS) < 2 ^ (i + 1)
-  rest-fits = rw rest-sum (top-fits word i rests b (flag≤ (not (eqb (getD states i 0) RUNNABLE))))
-
-  pub rest-more : Resting states i word → Resting states (i + 1) (bitOr word (rests * 2 ^ i % 2 ^ WORD-BITS))
-  rest-more h a m =
-      let few = flag≤ (not (eqb (getD states i 0) RUNNABLE)) in
-      rw rest-sum (
+  pub flag-more : Flags f i word → Flags f (i + 1) (bitOr word (boolByte (f i) * 2 ^ i % 2 ^ WORD-BITS))
+  flag-more h a m =
+      rw flag-sum (
       elim (decLt a i) [
-        | yes q ↦ top-other word i rests b few a q ∙ h a q
-        | no n ↦ let e : a ≡ i = omega arith in rw e (top-bit word i rests b few)
+        | yes q ↦ top-other word i (boolByte (f i)) b (flag≤ (f i)) a q ∙ h a q
+        | no n ↦ let e : a ≡ i = omega arith in rw e (top-bit word i (boolByte (f i)) b (flag≤ (f i)))
       ])
 
 -- ---- the lowest bits of a number are 1
@@ -367,7 +377,7 @@ not-resting states n word h b a l =
 
 -- ---- what the plain rules say
 module _ (k : Caps) (s : State) where
-  head-of : Holds (plainRules k s) → Holds (headRule k s)
+  pub head-of : Holds (plainRules k s) → Holds (headRule k s)
   unfolding plainRules
   head-of h = let ((_, (heads, _)), _) = h in heads
 
@@ -379,24 +389,40 @@ module _ (k : Caps) (s : State) where
   unfolding plainRules
   box-of h = let (_, (_, ((_, boxes), _))) = h in boxes
 
+  pub issue-of : Holds (plainRules k s) → (i : ℕ) → i < k .datas → Holds (issueRule k s i)
+  unfolding plainRules
+  issue-of h = let (_, (_, (_, (_, (_, (_, (_, issues))))))) = h in issues
+
+-- the row of values names data entries, and its words past those that count are 0
+pub issue-listed : (k : Caps) (w p : List ℕ) → Room k w p → Holds (headRule k (view k w p)) → ((i : ℕ) → i < k .datas → Holds (issueRule k (view k w p) i)) →
+    {n : ℕ} {list : List ℕ} → n ≡ head (view k w p) ISSUED → list ≡ view k w p ISSUE → (n ≤ length list) × Below (suc COLUMN-BITS) (length list) list × Ended n list
+issue-listed k w p room (_, (_, (issued, _))) h z y =
+    let s = view k w p in
+    let long = view-full k w p (room .words) ISSUE (lit< tt) in
+    rw (z, y) (
+      omega (arith, long),
+      λ i l. let r = h i (omega (arith, long)) in split (ltb i (head s ISSUED)) (λ t. omega (arith, r .0 (ltb-true i (head s ISSUED) t) .1, room .caps .fewDatas)) (λ t. omega (arith, r .1 (ltb-false i (head s ISSUED) t))),
+      λ i l m. let (_, rest) = h i (omega (arith, long)) in rest l,
+    )
+
 module _ (k : Caps) (w p : List ℕ) (room : Room k w p) (h : Holds (plainRules k (view k w p))) where
   -- a list names entries
   pub queue-below : {n : ℕ} {list : List ℕ} → n ≡ head (view k w p) QUEUED → list ≡ view k w p QUEUE → (n ≤ length list) × Below (k .actors) n list
   queue-below z y =
       let s = view k w p in
-      let (_, (queued, _)) = head-of k s h in
+      let (_, ((queued, _), _)) = head-of k s h in
       rw (z, y) (omega (arith, view-full k w p (room .words) QUEUE (lit< tt)), λ i l. let (_, (_, (_, (within, _)))) = slot-of k s h i (omega arith) in within l)
 
   pub arrival-below : {n : ℕ} {list : List ℕ} → n ≡ head (view k w p) ARRIVED → list ≡ view k w p ARRIVAL → (n ≤ length list) × Below (k .mails) n list
   arrival-below z y =
       let s = view k w p in
-      let (_, (_, arrived)) = head-of k s h in
+      let (_, ((_, arrived), _)) = head-of k s h in
       rw (z, y) (omega (arith, view-full k w p (room .words) ARRIVAL (lit< tt)), λ i l. let (_, (within, _)) = box-of k s h i (omega arith) in within l)
 
   -- there are no more arrivals than mailbox entries
   pub arrived-few : {n : ℕ} {list : List ℕ} → n ≡ head (view k w p) ARRIVED → list ≡ view k w p MAIL-DATA → n ≤ length list
   arrived-few z y =
-      let (_, (_, arrived)) = head-of k (view k w p) h in
+      let (_, ((_, arrived), _)) = head-of k (view k w p) h in
       rw (z, y) (omega (arith, view-full k w p (room .words) MAIL-DATA (lit< tt)))
 
   -- the words of the owners name data entries, one up, or none

@@ -1,4 +1,4 @@
--- The bits of a word past a place, and a column of words tested word by word.
+-- The bits of a word past a place, two words that have no bit in common, and a column of words tested word by word.
 use Prim.Native.Nat.{ℕ, zero, suc, _+_, _-_, _*_, _/_, _%_, _^_, _≤_, _<_}
 use native.Mathlib.Nat.{pow-suc, div-one, add-zero, add-suc, div-le-self}
 use native.Mathlib.Decide.{decLt}
@@ -7,11 +7,12 @@ use mathlib.Core.Path.{_≡_, refl, sym, ap, _∙_}
 use mathlib.Core.Bool.{Bool, true, false, not, _&&_}
 use mathlib.Core.List.{List}
 use lib.ListN.{getD}
+use lib.Bits.{bitAnd, and-shr, and-mod, and-le-l, and-zero-l, and-zero-r, and-self}
 use lib.Dec.{eqb}
 use lib.Pow.{shr-shr}
 use borrow.Author.Tests.{eqb-true, eqb-false, eq-eqb, not-true}
 use Rattle.pools.specs.Bits.{bit, free}
-use Rattle.pools.proofs.BitLaws.{bit-zero, bit-suc, bit-none}
+use Rattle.pools.proofs.BitLaws.{bit-zero, bit-suc, bit-none, bit-cases}
 use Rattle.rules.specs.Rule.{all, test}
 use Rattle.rules.proofs.Kept.Rules.{all-none, same-test, reads}
 use Rattle.sound.specs.Kinds.{wordRule}
@@ -24,7 +25,7 @@ zero-bits (suc w) y l h =
     omega (arith, sym (bit-zero y) ∙ h 0 (omega arith))
 
 -- bit i of what is left from bit lo on
-bit-after : (x lo i : ℕ) → bit (x / 2 ^ lo) i ≡ bit x (lo + i)
+pub bit-after : (x lo i : ℕ) → bit (x / 2 ^ lo) i ≡ bit x (lo + i)
 bit-after x lo i = ap (λ (y : ℕ). y % 2) (shr-shr x lo i)
 
 -- where nothing is left from bit lo on, no later bit is set
@@ -41,9 +42,29 @@ none-past x lo b q h = zero-bits 64 (x / 2 ^ lo) q (λ j m. bit-after x lo j ∙
     there j = elim (decLt (lo + j) 64) [ yes l ↦ h (lo + j) (omega arith) l | no n ↦ bit-past x 64 (lo + j) (omega arith) (omega arith) ]
 
 -- a bit that is not 1
-bit-clear : (x i : ℕ) → not (eqb (bit x i) 1) ≡ true → bit x i ≡ 0
+pub bit-clear : (x i : ℕ) → not (eqb (bit x i) 1) ≡ true → bit x i ≡ 0
 bit-clear x i t = let n : bit x i ≡ 1 → ⊥ = eqb-false (bit x i) 1 (not-true (eqb (bit x i) 1) t) in omega arith
 
+-- ---- two words that have no bit in common
+-- a bit of what two words have in common
+bit-and : (x y i : ℕ) → bit (bitAnd x y) i ≡ bitAnd (bit x i) (bit y i)
+bit-and x y i = ap (λ (z : ℕ). z % 2) (and-shr x y i) ∙ and-mod (x / 2 ^ i) (y / 2 ^ i) 1
+
+-- where they have nothing in common, what is a bit of the one is none of the other
+pub common-none : (x y : ℕ) → bitAnd x y ≡ 0 → (i : ℕ) → bit x i ≡ 1 → bit y i ≡ 0
+common-none x y z i e =
+    bit-cases y i
+    (λ f. let q : bitAnd (bit x i) (bit y i) ≡ 0 = sym (bit-and x y i) ∙ ap (λ (w : ℕ). bit w i) z ∙ bit-none i in
+    absurd (omega (arith, rw (e, f, and-self 1) at q)))
+    (λ f. f)
+
+-- and the other way round, where the one has w bits
+pub none-common : (w x y : ℕ) → x < 2 ^ w → ((i : ℕ) → i < w → bit x i ≡ 1 → bit y i ≡ 0) → bitAnd x y ≡ 0
+none-common w x y l h =
+    zero-bits w (bitAnd x y) (omega (arith, and-le-l x y)) (λ i m. bit-and x y i ∙
+    bit-cases x i (λ e. rw (h i m e) (and-zero-r (bit x i))) (λ e. rw e (and-zero-l (bit y i))))
+
+-- ---- a column of words
 module _ (n : ℕ) (bits : List ℕ) (j : ℕ) where
   -- an entry's bit in its word
   pub free-at : (i : ℕ) → i < 64 → free bits (64 * j + i) ≡ eqb (bit (getD bits j 0) i) 1

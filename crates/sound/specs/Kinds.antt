@@ -8,12 +8,12 @@ use Rattle.pools.specs.Bits.{free}
 use Rattle.records.specs.Header.{classOf}
 use Rattle.tables.specs.declared.Caps.{Caps}
 use Rattle.tables.specs.Columns.{AGE, DATA-FREE, DEADLINE, HAND, MAIL-FREE, PRIORITY, REASON, STATE, WANT-CLASS, WANT-SENDER, WANT-TAG}
-use Rattle.tables.specs.Limits.{ENTRY-BYTES, HEADER-BYTES, LAST-LEVEL, OLDEST, PAYLOAD-MOST}
+use Rattle.tables.specs.Limits.{ENTRY-BYTES, HEADER-BYTES, LAST-LEVEL, MOST-BUSES, OLDEST, PAYLOAD-MOST}
 use Rattle.tables.specs.Sizes.{COLUMN-BITS, SPARES}
 use Rattle.tables.specs.State.{State, at}
 use Rattle.rules.specs.Rule.{Rule, is, le, eq, differ, both, imp, each}
 use Rattle.rules.specs.Terms.{FREE, RUNNABLE, RUNS, TIMEOUT, WAITS, alive, awaits, headerAt, runner}
-use Rattle.rules.specs.Sound.{capsRule, headRule, spareRule, bitsRule, slotRule, boxRule, dataRule, headerRule, lengthRule, linkRule, monitorRule, senderRule, timerRule, waitRule, mailRule, filterRule, onceRule, arrivedRule, heldRule, pairRule, plainRules, zeros}
+use Rattle.rules.specs.Sound.{capsRule, headRule, spareRule, bitsRule, slotRule, boxRule, busRule, rowRule, crowdRule, dataRule, headerRule, issuedRule, issueRule, lengthRule, linkRule, monitorRule, senderRule, timerRule, valueRule, waitRule, mailRule, filterRule, onceRule, arrivedRule, heldRule, pairRule, plainRules, zeros}
 
 -- ---- the rules of a slot, by its state
 -- its own words
@@ -61,11 +61,21 @@ writtenRule area ages sender length d =
     both (both (headerRule (headerAt area d)) (lengthRule (classOf (headerAt area d)) length))
     (both (senderRule ages (classOf (headerAt area d)) sender) (zeros area (ENTRY-BYTES * d + (HEADER-BYTES + length)) (PAYLOAD-MOST - length)))
 
+-- it holds a bus's value
+abbrev pub postedRule : List ℕ → ℕ → ℕ → ℕ → Rule
+postedRule area sender length d =
+    both (both (eq (headerAt area d) 0) (eq sender 0))
+    (both (le length PAYLOAD-MOST) (zeros area (ENTRY-BYTES * d + (HEADER-BYTES + length)) (PAYLOAD-MOST - length)))
+
+-- one or the other, by the word that says of which bus it holds a value
+abbrev pub takenRule : List ℕ → List ℕ → ℕ → ℕ → ℕ → ℕ → Rule
+takenRule area ages bus sender length d = both (imp (eq bus 0) (writtenRule area ages sender length d)) (imp (differ bus 0) (postedRule area sender length d))
+
 -- the rule of a data entry, of the columns that it reads
-abbrev pub entryRule : List ℕ → List ℕ → List ℕ → ℕ → ℕ → ℕ → Rule
-entryRule area bits ages sender length d =
+abbrev pub entryRule : List ℕ → List ℕ → List ℕ → ℕ → ℕ → ℕ → ℕ → Rule
+entryRule area bits ages bus sender length d =
     both (imp (is (free bits d)) (both (both (eq sender 0) (eq length 0)) (zeros area (ENTRY-BYTES * d) ENTRY-BYTES)))
-    (imp (is (not (free bits d))) (writtenRule area ages sender length d))
+    (imp (is (not (free bits d))) (takenRule area ages bus sender length d))
 
 -- the bits of word j of a pool of n entries
 abbrev pub wordRule : ℕ → List ℕ → ℕ → Rule
@@ -87,6 +97,12 @@ dataRules k s = both (each (k .datas) (λ d. dataRule s d)) (each (k .links) (λ
 abbrev pub timeRules : Caps → State → Rule
 timeRules k s = both (each (k .monitors) (λ i. monitorRule s i)) (each (k .timers) (λ i. timerRule s i))
 
+abbrev pub busRules : State → Rule
+busRules s = both (each MOST-BUSES (λ b. busRule s b)) (each MOST-BUSES (λ b. rowRule s b))
+
+abbrev pub valueRules : Caps → State → Rule
+valueRules k s = both (each (k .datas) (λ d. valueRule s d)) (each (k .datas) (λ i. issueRule k s i))
+
 -- ---- the parts of the late rules
 abbrev pub filterRules : Caps → State → Rule
 filterRules k s = each (k .mails) (λ e. filterRule s e)
@@ -94,11 +110,23 @@ filterRules k s = each (k .mails) (λ e. filterRule s e)
 abbrev pub pairRules : Caps → State → Rule
 pairRules k s = each (k .links) (λ e. pairRule s e)
 
+-- that the row has each value once, and no bus too many
+abbrev pub issuedRules : Caps → State → Rule
+issuedRules k s = both (each (k .datas) (λ d. issuedRule s d)) (each MOST-BUSES (λ b. crowdRule s b))
+
 abbrev pub countRules : Caps → State → Rule
 countRules k s =
     both (both (each (k .actors) (λ a. onceRule s a)) (each (k .mails) (λ e. arrivedRule s e)))
     (each (k .datas) (λ d. heldRule s d))
 
--- ---- what is tested before the counts: the plain rules, and the filters and pairs, which are tested with the entries that they belong to
+-- ---- what is tested before the counts: the plain rules, and the filters, the pairs and those of the row of values, which are tested with the entries that they belong to
 abbrev pub earlyRules : Caps → State → Rule
-earlyRules k s = both (plainRules k s) (both (filterRules k s) (pairRules k s))
+earlyRules k s = both (plainRules k s) (both (both (filterRules k s) (pairRules k s)) (issuedRules k s))
+
+-- all of them but the front, in the order that they are tested in
+abbrev pub bodyRules : Caps → State → Rule
+bodyRules k s =
+    both (bitRules k s)
+    (both (both (boxRules k s) (filterRules k s))
+    (both (both (dataRules k s) (pairRules k s))
+    (both (timeRules k s) (both (busRules s) (both (valueRules k s) (issuedRules k s))))))

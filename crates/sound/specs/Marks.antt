@@ -1,5 +1,5 @@
 -- A set of entries that is marked in words of bits, one entry after the other.
-use Prim.Native.Nat.{ℕ, _+_, _*_, _≤_, _<_}
+use Prim.Native.Nat.{ℕ, zero, suc, _+_, _*_, _^_, _≤_, _<_}
 use mathlib.Core.Path.{_≡_}
 use mathlib.Core.Bool.{Bool, true, false, not, _&&_}
 use mathlib.Core.List.{List}
@@ -33,9 +33,22 @@ OTHERS = drop 1 OWNERS
 abbrev pub Below : ℕ → ℕ → List ℕ → Type 0
 Below m n list = (i : ℕ) → i < n → getD list i 0 < m
 
--- of the first n slots those that are not runnable have their bit
+-- from the n-th on they are 0
+abbrev pub Ended : ℕ → List ℕ → Type 0
+Ended n list = (i : ℕ) → n ≤ i → i < length list → getD list i 0 ≡ 0
+
+-- of the first n numbers those that pass a test have their bit
+abbrev pub Flags : (ℕ → Bool) → ℕ → ℕ → Type 0
+Flags f n word = (i : ℕ) → i < n → bit word i ≡ boolByte (f i)
+
+-- of the first n slots those that are not runnable
 abbrev pub Resting : List ℕ → ℕ → ℕ → Type 0
-Resting states n word = (a : ℕ) → a < n → bit word a ≡ boolByte (not (eqb (getD states a 0) RUNNABLE))
+Resting states n word = Flags (λ a. not (eqb (getD states a 0) RUNNABLE)) n word
+
+-- the number whose one bit is that of the entry that a word names, one up; 0 where it names none
+abbrev pub bitUp : ℕ → ℕ
+bitUp zero = 0
+bitUp (suc e) = 2 ^ e
 
 -- in word j each of n entries is marked
 abbrev pub fullRule : ℕ → List ℕ → ℕ → Rule

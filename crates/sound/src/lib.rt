@@ -3,10 +3,11 @@ ghost use mathlib.Core.Path.{_≡_};
 ghost use Rattle.rules.specs.Rule.{both, test, Holds};
 ghost use Rattle.rules.specs.Sound.{rangeRule, sizeRule, fitRule, capsRule, headRule, plainRules, acrossRules, soundAt, soundRule};
 ghost use Rattle.rules.specs.Host.{Tests};
-ghost use Rattle.sound.specs.Kinds.{frontRules, bitRules, boxRules, dataRules, timeRules, filterRules, pairRules, countRules, earlyRules};
+ghost use Rattle.sound.specs.Kinds.{frontRules, bitRules, boxRules, dataRules, timeRules, busRules, valueRules, filterRules, pairRules, issuedRules, countRules, earlyRules, bodyRules};
 ghost use Rattle.sound.specs.Standing.{Standing};
 ghost use Rattle.tables.specs.Columns.{STATE};
 ghost use Rattle.tables.specs.State.{Room, RoomWith};
+use buses::buses;
 use every::boxes;
 use every::slots;
 use every::spares;
@@ -18,9 +19,11 @@ use standing::stand;
 use tables::Caps;
 use tables::columns::ACTORS;
 use tables::columns::ARRIVED;
+use tables::columns::BUSES;
 use tables::columns::CLOCK;
 use tables::columns::DATA_FREE;
 use tables::columns::DATAS;
+use tables::columns::ISSUED;
 use tables::columns::LINKS;
 use tables::columns::MAIL_FREE;
 use tables::columns::MAILS;
@@ -34,6 +37,7 @@ use tables::layout::caps_of;
 use tables::layout::words_needed;
 use tables::limits::CLOCK_END;
 use tables::limits::MOST_ACTORS;
+use tables::limits::MOST_BUSES;
 use tables::limits::MOST_DATAS;
 use tables::limits::MOST_LINKS;
 use tables::limits::MOST_MAILS;
@@ -44,8 +48,10 @@ use tables::words::get;
 use ties::links;
 use ties::monitors;
 use ties::timers;
+use values::values;
 use words::words_ok;
 
+pub mod buses;
 pub mod entries;
 pub mod every;
 pub mod lists;
@@ -54,6 +60,7 @@ pub mod marks;
 pub mod messages;
 pub mod standing;
 pub mod ties;
+pub mod values;
 pub mod words;
 pub mod zeros;
 
@@ -109,8 +116,11 @@ fn head_ok(t: &[u64], p: &[u8], k: Caps) -> bool
     let runner = get(t, p, k, RUNNING, 0);
     let queued = get(t, p, k, QUEUED, 0);
     let arrived = get(t, p, k, ARRIVED, 0);
+    let issued = get(t, p, k, ISSUED, 0);
+    let buses = get(t, p, k, BUSES, 0);
     ((clock <= CLOCK_END) & (runner <= (k.actors as u64)))
-        & ((queued <= (k.actors as u64)) & (arrived <= (k.mails as u64)))
+        & (((queued <= (k.actors as u64)) & (arrived <= (k.mails as u64)))
+            & ((issued <= (k.datas as u64)) & (buses <= (MOST_BUSES as u64))))
 }
 
 fn front_ok(t: &[u64], p: &[u8], k: Caps) -> bool
@@ -161,17 +171,38 @@ fn times_ok(t: &[u64], p: &[u8], k: Caps, row: &[u8; PLACES]) -> bool
     monitors & timers
 }
 
-// All of them, and the filters and the pairs, which are tested with the entries that they belong to. The row says how the slots stand.
-fn plain_ok(t: &[u64], p: &[u8], k: Caps, row: &[u8; PLACES]) -> bool
-    requires { ⌜ RoomWith k (λ s. Standing (s STATE) (now row)) (now t) (now p) ⌝ }
-    ensures { λ r. ⌜ Tests k (earlyRules k) (now (t .entry)) (now (p .entry)) r ⌝ }
+// The buses and who sits on them, and then the values, with the row that has them.
+fn buses_ok(t: &[u64], p: &[u8], k: Caps, row: &[u8; PLACES]) -> bool
+    requires { ⌜ RoomWith k (λ s. Standing (s STATE) (now row) × Holds (headRule k s)) (now t) (now p) ⌝ }
+    ensures { λ r. ⌜ Tests k (λ s. both (busRules s) (both (valueRules k s) (issuedRules k s))) (now (t .entry)) (now (p .entry)) r ⌝ }
 {
-    let front = front_ok(t, p, k);
+    let buses = buses(t, p, k, row);
+    let values = values(t, p, k);
+    buses & values
+}
+
+// All of them but the front, and the late ones which are tested with the entries that they belong to. The row says how the slots stand.
+fn body_ok(t: &[u64], p: &[u8], k: Caps, row: &[u8; PLACES]) -> bool
+    requires { ⌜ RoomWith k (λ s. Standing (s STATE) (now row) × Holds (headRule k s)) (now t) (now p) ⌝ }
+    ensures { λ r. ⌜ Tests k (bodyRules k) (now (t .entry)) (now (p .entry)) r ⌝ }
+{
     let bits = all_bits_ok(t, p, k);
     let boxes = boxes_ok(t, p, k, row);
     let datas = datas_ok(t, p, k, row);
     let times = times_ok(t, p, k, row);
-    front & (bits & (boxes & (datas & times)))
+    let buses = buses_ok(t, p, k, row);
+    bits & (boxes & (datas & (times & buses)))
+}
+
+// The front, and then the others.
+fn plain_ok(t: &[u64], p: &[u8], k: Caps, row: &[u8; PLACES]) -> bool
+    requires { ⌜ RoomWith k (λ s. Standing (s STATE) (now row)) (now t) (now p) ⌝ }
+    ensures { λ r. ⌜ Tests k (earlyRules k) (now (t .entry)) (now (p .entry)) r ⌝ }
+{
+    if front_ok(t, p, k) {
+        return body_ok(t, p, k, row);
+    }
+    false
 }
 
 // The same, by a row that is made here.

@@ -8,7 +8,7 @@ ghost use Rattle.pools.specs.Bits.{WORD-BITS, free};
 ghost use Rattle.pools.specs.Pool.{occurs};
 ghost use Rattle.rules.specs.Rule.{test, both, each, is, Holds};
 ghost use Rattle.rules.specs.Sound.{held, plainRules, onceRule, arrivedRule, heldRule};
-ghost use Rattle.sound.specs.Marks.{Added, AddedBoth, Below, OTHERS, Resting, fullRule};
+ghost use Rattle.sound.specs.Marks.{Added, AddedBoth, Below, Ended, OTHERS, Resting, fullRule};
 ghost use Rattle.rules.specs.Host.{Tests};
 ghost use Rattle.tables.specs.Sizes.{BIT-WORDS, COLUMN-BITS};
 ghost use Rattle.tables.specs.State.{Of, RoomWith};
@@ -21,6 +21,8 @@ use tables::columns::ARRIVAL;
 use tables::columns::ARRIVED;
 use tables::columns::DATA_FREE;
 use tables::columns::HAND;
+use tables::columns::ISSUE;
+use tables::columns::ISSUED;
 use tables::columns::MAIL_DATA;
 use tables::columns::MAIL_FREE;
 use tables::columns::QUEUE;
@@ -159,12 +161,23 @@ fn marks_mails(
     first & rest
 }
 
+// The entries that a list names, one up, of which the first n words count, and the others are 0.
+pub fn marks_first(list: &[u64], n: usize, seen: &mut [u64; BIT_WORDS]) -> bool
+    requires { ⌜ (n ≤ length (now list)) × Below (suc COLUMN-BITS) (length (now list)) (now list) × Ended n (now list) × (length (now seen) ≡ BIT-WORDS) ⌝ }
+    ensures { λ r. ⌜ Added (λ d. occurs (suc d) (now (list .entry))) r (now (seen .entry)) (now (seen .exit)) ⌝ }
+{
+    marks_up(&list[0..n], seen)
+}
+
 // All that the owners of data entries name, apart from the queued messages: a call for each.
 fn marks_others(t: &[u64], p: &[u8], k: Caps, seen: &mut [u64; BIT_WORDS]) -> bool
     requires { ⌜ RoomWith k (λ s. Holds (plainRules k s)) (now t) (now p) × (length (now seen) ≡ BIT-WORDS) ⌝ }
     ensures { λ r. ⌜ Of k (λ s. Added (λ d. held OTHERS s d) r (now (seen .entry)) (now (seen .exit))) (now (t .entry)) (now (p .entry)) ⌝ }
 {
-    marks_up(column(t, p, k, HAND), seen)
+    let hands = marks_up(column(t, p, k, HAND), seen);
+    let n = get(t, p, k, ISSUED, 0) as usize;
+    let values = marks_first(column(t, p, k, ISSUE), n, seen);
+    hands & values
 }
 
 // ---- what is marked at first

@@ -11,7 +11,7 @@ use crate::Caps;
 use crate::limits::ENTRY_BYTES;
 
 // The bytes of m over q.
-fn copy(q: &mut [u8], from: usize, m: &[u8])
+pub fn copy(q: &mut [u8], from: usize, m: &[u8])
     requires { ⌜ from + length (now m) ≤ length (now q) ⌝ }
     ensures { λ _. ⌜ now (q .exit) ≡ sets (now (q .entry)) from (now (m .entry)) ⌝ }
 {

@@ -15,7 +15,7 @@ use Rattle.pools.proofs.BoolLaws.{split}
 use Rattle.tables.specs.declared.Caps.{Caps}
 use Rattle.tables.specs.Columns.{ACTORS, AGE, ARRIVED, CLOCK, DATA-FREE, DATAS, DEADLINE, DUE, HAND, INTERVAL, LENGTH, LINK-ONE, LINK-TWO, LINKS, MAIL-DATA}
 use Rattle.tables.specs.Columns.{MAIL-FREE, MAIL-OWNER, MAILS, MONITOR-AGE, MONITORS, QUEUE, QUEUED, REST, STATE, TIMER-AGE, TIMER-OWNER, TIMERS, WANT-CLASS}
-use Rattle.tables.specs.Columns.{BUS-AGE, BUS-READS, BUS-SEATS, BUS-SIZE, BUSES, ISSUE, ISSUED, VALUE-BUS, WANT-SENDER, WANT-TAG, WATCHED, WATCHER}
+use Rattle.tables.specs.Columns.{BUS-AGE, BUS-READS, BUS-SEATS, BUS-SIZE, BUSES, ISSUE, ISSUED, PUBLISHED, VALUE-BUS, WANT-SENDER, WANT-TAG, WATCHED, WATCHER}
 use Rattle.tables.specs.Limits.{CLOCK-END, DEADLINE-END, DUE-END, LONGEST, LONGEST-AGE, MOST-BUSES, MOST-READS, MOST-SEATS, MOST-VALUES, OLDEST, PAYLOAD-MOST}
 use Rattle.tables.specs.State.{State, at, head, size, with-col}
 use Rattle.rules.specs.Rule.{Holds}
@@ -216,6 +216,12 @@ module _ {k : Caps} {s : State} (g : Good k s) where
 
   pub issue-some : (i : ℕ) → i < head s ISSUED → 1 ≤ at s ISSUE i
   issue-some i h = g .issues i (omega (arith, values-fit)) .0 h .0
+
+  -- a value was published at or before the clock; 0 where there is none
+  pub published-fits : (d : ℕ) → at s PUBLISHED d ≤ head s CLOCK
+  published-fits =
+      used-word PUBLISHED (head s CLOCK) (omega arith) (unused (s VALUE-BUS))
+      (λ d l q. g .values d l .0 (eqb-true _ _ q) .1) (λ d l q. g .values d l .1 (eqb-false _ _ q) .0 .1)
 
   -- ---- THE LAWS of other states: what asks that somebody lives is so there too, where those whom it names live
   module _ (states : List ℕ) where

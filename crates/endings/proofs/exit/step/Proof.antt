@@ -2,6 +2,7 @@
 use mathlib.Core.Path.{_≡_, refl}
 use native.Mathlib.Omega.{arith}
 use Rattle.tables.specs.State.{view}
+use Rattle.rules.proofs.Kept.Clauses.{arrivals-fit, buses-fit}
 use Rattle.endings.proofs.EndingLaws.{arm, ending-small, midway-going, tells-few}
 use borrow.Author.Needs.{needs}
 use Rattle.endings.proofs.exit.step.Statement.{statement}
@@ -11,7 +12,7 @@ clear-requires : tie.Need-clear-requires
 clear-requires c κs =
     let c1 = c .before .before .before .before .before in
     let e = c1 .pre .2 .ending in
-    (c1 .pre .0, ending-small e, e .good .head .1 .1)
+    (c1 .pre .0, ending-small e, arrivals-fit (e .good))
 
 cut-links-requires : tie.Need-cut-links-requires
 cut-links-requires c κs =
@@ -32,6 +33,12 @@ drop-timers-requires : tie.Need-drop-timers-requires
 drop-timers-requires c κs =
     let c1 = c .before .before .before .before .before in
     (c1 .pre .0, ending-small (c1 .pre .2 .ending))
+
+quit-buses-requires : tie.Need-quit-buses-requires
+quit-buses-requires c κs =
+    let c1 = c .before .before .before .before .before in
+    let e = c1 .pre .2 .ending in
+    (c1 .pre .0, (ending-small e, omega (arith, buses-fit (e .good))))
 
 returns : tie.Need-returns
 returns c =
@@ -79,7 +86,16 @@ returns-5 c =
     (arm (a .k) (a .a) (a .me) (a .reason) s (a .i) 4 (c2 .match .keys5) d, tells-few d)
 
 returns-6 : tie.Need-returns-6
-returns-6 c = absurd (omega (arith, c .before .before .before .pre .1, c .match .rest))
+returns-6 c =
+    let c1 = c .before .before in
+    let c2 = c1 .before .before .before in
+    let a = c2 .before .before .before .args in
+    let s = view (a .k) (a .t .now) (a .p .now) in
+    let d = c1 .quit-buses .ensures in
+    (arm (a .k) (a .a) (a .me) (a .reason) s (a .i) 5 (c2 .match .keys6) d, tells-few d)
+
+returns-7 : tie.Need-returns-7
+returns-7 c = absurd (omega (arith, c .before .before .before .pre .1, c .match .rest))
 
 pub step-spec : {M : Type 1} → statement M
 step-spec =
@@ -90,6 +106,7 @@ step-spec =
     cut-monitors-requires
     drop-monitors-requires
     drop-timers-requires
+    quit-buses-requires
     (λ c. search needs)
     (λ c. search needs)
     returns
@@ -105,4 +122,7 @@ step-spec =
     (λ c. search needs)
     (λ c. search needs)
     returns-5
-    returns-6)
+    (λ c. search needs)
+    (λ c. search needs)
+    returns-6
+    returns-7)

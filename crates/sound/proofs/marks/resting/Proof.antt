@@ -1,8 +1,12 @@
 -- `sound::marks::resting` meets its contract.
 use native.Mathlib.Omega.{arith}
-use Prim.Native.Nat.{_≤_, _<_, _-_, _^_}
+use Prim.Native.Nat.{ℕ, _≤_, _<_, _-_, _^_}
+use mathlib.Core.Bool.{Bool, not}
+use lib.Dec.{eqb}
+use lib.ListN.{getD}
+use Rattle.rules.specs.Terms.{RUNNABLE}
 use Rattle.sound.specs.Marks.{Resting}
-use Rattle.sound.proofs.MarkLaws.{rest-fits, rest-more}
+use Rattle.sound.proofs.MarkLaws.{flag-fits, flag-more}
 use borrow.Author.Needs.{needs}
 use Rattle.sound.proofs.marks.resting.Statement.{statement}
 use Rattle.sound.proofs.marks.resting.Tie as tie
@@ -18,9 +22,9 @@ loop-holds c = (search needs, omega arith, λ a l. absurd (omega arith))
 
 loop-again : tie.Need-loop-again Inv-loop μ-loop
 loop-again c =
-    let a = c .before .before .before .args in
+    let f : ℕ → Bool = λ a. not (eqb (getD (c .before .before .before .args .states .now) a 0) RUNNABLE) in
     let l = c .before .before .loop in
-    (search needs, rest-fits (a .states .now) (l .i) (l .word) (omega arith) (l .inv .1), rest-more (a .states .now) (l .i) (l .word) (omega arith) (l .inv .1) (l .inv .2))
+    (search needs, flag-fits f (l .i) (l .word) (omega arith) (l .inv .1), flag-more f (l .i) (l .word) (omega arith) (l .inv .1) (l .inv .2))
 
 returns : tie.Need-returns Inv-loop μ-loop
 returns c = λ a m. c .before .loop .inv .2 a (omega arith)

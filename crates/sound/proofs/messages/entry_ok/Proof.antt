@@ -13,7 +13,7 @@ returns c =
     pick-yes _ (sym (c .before .before .is-free .ensures) ∙ c .before .if1 .taken) (or-test (bitOr (a .sender) (a .len)) (c .joined .result) ∙ and-same (or-test (a .sender) (a .len)) (c .joined .ensures))
 
 returns-2 : tie.Need-returns-2
-returns-2 c = pick-no _ (sym (c .before .before .is-free .ensures) ∙ c .before .if1 .left) (c .message-ok .ensures)
+returns-2 c = pick-no _ (sym (c .before .before .is-free .ensures) ∙ c .before .if1 .left) (c .taken-ok .ensures)
 
 pub entry-ok-spec : {M : Type 1} → statement M
 entry-ok-spec = tie.close (tie.spec (λ c κs. search needs) (λ c. search needs) (λ c κs. search needs) returns (λ c κs. search needs) returns-2)
