@@ -1,12 +1,19 @@
 // A refusal for want of room: which pool was full, and what held it.
+use crate::buses::bus_holders;
+use crate::buses::tell_seats;
 use crate::places::at;
 use crate::places::head;
 use crate::record::AFTER;
+use crate::record::BUS;
 use crate::record::EVERY;
+use crate::record::FIRST;
 use crate::record::LINK;
 use crate::record::MONITOR;
 use crate::record::NOTIFY;
+use crate::record::PUBLISH;
 use crate::record::SPAWN;
+use crate::record::SUBSCRIBE;
+use crate::record::number_at;
 use crate::states::state;
 use crate::things::Thing;
 use crate::things::how_many;
@@ -23,6 +30,7 @@ use crate::words::say;
 use crate::words::track;
 use runtime::host::fg_report;
 use tables::columns::ACTORS;
+use tables::columns::BUSES;
 use tables::columns::CLOCK;
 use tables::columns::DATAS;
 use tables::columns::HAND;
@@ -44,7 +52,7 @@ pub enum Pool {
 // Does a call of this kind need room?
 pub fn needs_room(kind: u16) -> bool {
     match kind {
-        SPAWN | NOTIFY | AFTER | EVERY | LINK | MONITOR => true,
+        SPAWN | NOTIFY | AFTER | EVERY | LINK | MONITOR | BUS | PUBLISH | SUBSCRIBE => true,
         _ => false,
     }
 }
@@ -126,6 +134,14 @@ fn holders(t: &[u64], pool: Pool) {
     }
 }
 
+// What was published holds data entries too.
+fn other_holders(t: &[u64], pool: Pool) {
+    match pool {
+        Pool::Datas => bus_holders(t),
+        _ => {}
+    }
+}
+
 // How many slots of a pool have had their last use.
 fn worn_of(t: &[u64], pool: Pool) -> u64 {
     match pool {
@@ -151,6 +167,7 @@ fn tell_pool(t: &[u64], pool: Pool, free: u64) {
     }
     pool_line(t, pool);
     holders(t, pool);
+    other_holders(t, pool);
     worn_line(t, pool);
 }
 
@@ -165,12 +182,22 @@ fn tell_pools(t: &[u64], kind: u16, free: [u64; 6]) {
         LINK => tell_pool(t, Pool::Links, free[3]),
         MONITOR => tell_pool(t, Pool::Monitors, free[4]),
         AFTER | EVERY => tell_pool(t, Pool::Timers, free[5]),
+        PUBLISH => tell_pool(t, Pool::Datas, free[2]),
+        _ => {}
+    }
+}
+
+// The seats of a bus, or the buses, those of them that a call needs: they were full.
+fn tell_lists(t: &[u64], r: &[u8], kind: u16) {
+    match kind {
+        SUBSCRIBE => tell_seats(t, number_at(r, FIRST)),
+        BUS => none_free(b"buses", head(t, BUSES)),
         _ => {}
     }
 }
 
 // The lines of a call that found no room at record n.
-pub fn tell_full(t: &mut [u64], p: &mut [u8], kind: u16, n: u64) {
+pub fn tell_full(t: &mut [u64], p: &mut [u8], r: &[u8], kind: u16, n: u64) {
     record(n, head(t, CLOCK));
     track(running(t));
     say(b" called ");
@@ -179,4 +206,5 @@ pub fn tell_full(t: &mut [u64], p: &mut [u8], kind: u16, n: u64) {
     let counts = fg_report(t, p);
     let free = counts.free;
     tell_pools(t, kind, free);
+    tell_lists(t, r, kind);
 }

@@ -25,9 +25,9 @@ fn copy_bytes(from: &[u8], to: &mut [u8], n: usize)
 }
 
 // The runtime in two buffers, copied into two others.
-pub fn copy(t: &[u64; 4096], p: &[u8; 65536], to: &mut [u64; 4096], area: &mut [u8; 65536]) {
+pub fn copy(t: &[u64; 6144], p: &[u8; 65536], to: &mut [u64; 6144], area: &mut [u8; 65536]) {
     let words = words_taken(t);
-    if words <= 4096 {
+    if words <= 6144 {
         copy_words(t, to, words);
     }
     let bytes = bytes_taken(t);

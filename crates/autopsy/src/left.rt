@@ -1,4 +1,5 @@
 // Who and what is still there.
+use crate::buses::each_bus;
 use crate::named::in_its_name;
 use crate::places::at;
 use crate::places::head;
@@ -58,6 +59,7 @@ pub fn still_there(t: &mut [u64], p: &mut [u8], n: u64) {
     if !each_track(t, p) {
         say(b"no track\n");
     }
+    each_bus(t);
     say(b"free: ");
     let counts = fg_report(t, p);
     let free = counts.free;

@@ -30,6 +30,7 @@ use words::number;
 use words::say;
 
 mod aimed;
+mod buses;
 mod ends;
 mod exits;
 mod full;
@@ -40,6 +41,7 @@ mod messages;
 mod named;
 mod places;
 mod record;
+mod seats;
 mod starts;
 mod states;
 mod things;
@@ -67,16 +69,16 @@ fn tell_refused(t: &mut [u64], p: &mut [u8], ends: &[u64], r: &[u8], n: u64) {
     }
     if needs_room(kind) {
         if answer_of(r, kind) == 2 {
-            tell_full(t, p, kind, n);
+            tell_full(t, p, r, kind, n);
         }
     }
 }
 
 // Record n made and told; where it is not right, the buffers are as they were before it. That is also what `words` and `bytes` hold.
 fn turn(
-    t: &mut [u64; 4096],
+    t: &mut [u64; 6144],
     p: &mut [u8; 65536],
-    words: &mut [u64; 4096],
+    words: &mut [u64; 6144],
     bytes: &mut [u8; 65536],
     ends: &mut [u64; 16384],
     r: &[u8],
@@ -133,9 +135,9 @@ fn finish(t: &mut [u64], p: &mut [u8], verdict: u64, n: u64) {
 
 // One record after the other.
 fn run(
-    t: &mut [u64; 4096],
+    t: &mut [u64; 6144],
     p: &mut [u8; 65536],
-    words: &mut [u64; 4096],
+    words: &mut [u64; 6144],
     bytes: &mut [u8; 65536],
     ends: &mut [u64; 16384],
     buf: &mut [u8; 262144],
@@ -159,9 +161,9 @@ fn run(
 }
 
 fn main() {
-    let mut t = [0u64; 4096];
+    let mut t = [0u64; 6144];
     let mut p = [0u8; 65536];
-    let mut words = [0u64; 4096];
+    let mut words = [0u64; 6144];
     let mut bytes = [0u8; 65536];
     let mut ends = [0u64; 16384];
     let mut buf = [0u8; 262144];

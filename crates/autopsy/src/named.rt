@@ -1,6 +1,8 @@
 // What is in a track's name, a line each.
 use crate::messages::message;
 use crate::places::at;
+use crate::seats::seat_of;
+use crate::seats::unread_on;
 use crate::things::Thing;
 use crate::things::is_its;
 use crate::things::one_up;
@@ -8,6 +10,7 @@ use crate::things::unread;
 use crate::who::monitor_id;
 use crate::who::timer_id;
 use crate::who::track_up;
+use crate::words::counted;
 use crate::words::end_line;
 use crate::words::number;
 use crate::words::say;
@@ -70,6 +73,18 @@ fn monitor_by_line(t: &[u64], i: u64) {
     number(track_up(t, at(t, WATCHED, i)));
 }
 
+// A subscription to bus b, and how much of what was published there it has not read.
+fn subscription_line(t: &[u64], up: u64, b: u64) {
+    say(b"subscribed to bus ");
+    number(b);
+    say(b", ");
+    counted(
+        unread_on(t, b, seat_of(t, b, up)),
+        b" entry unread",
+        b" entries unread",
+    );
+}
+
 // The line of the i-th thing of a sort.
 fn line(t: &[u64], p: &[u8], thing: Thing, up: u64, i: u64) {
     say(b"  ");
@@ -79,6 +94,7 @@ fn line(t: &[u64], p: &[u8], thing: Thing, up: u64, i: u64) {
         Thing::Link => link_line(t, up, i),
         Thing::MonitorOn => monitor_on_line(t, i),
         Thing::MonitorBy => monitor_by_line(t, i),
+        Thing::Subscription => subscription_line(t, up, i),
         _ => {}
     }
     end_line();
@@ -117,7 +133,8 @@ pub fn in_its_name(t: &[u64], p: &[u8], slot: u64) {
     let links = each(t, p, Thing::Link, up);
     let watchers = each(t, p, Thing::MonitorOn, up);
     let watched = each(t, p, Thing::MonitorBy, up);
-    if (unread | hand) | (timers | links) | (watchers | watched) {
+    let subscribed = each(t, p, Thing::Subscription, up);
+    if (unread | hand) | (timers | links) | (watchers | watched) | subscribed {
         return;
     }
     say(b"  nothing\n");

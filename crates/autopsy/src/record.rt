@@ -21,6 +21,14 @@ pub const MONITOR: u16 = 29;
 
 pub const EXIT: u16 = 31;
 
+pub const BUS: u16 = 34;
+
+pub const PUBLISH: u16 = 35;
+
+pub const SUBSCRIBE: u16 = 36;
+
+pub const READ: u16 = 38;
+
 // Where the first number lies; numbers are of eight bytes.
 pub const FIRST: usize = 4;
 
@@ -50,13 +58,12 @@ fn last(r: &[u8]) -> u64 {
     number_at(r, r.len() - 8)
 }
 
-// The answer: after the eight numbers of a start, after the text of a notify, after the one number of the others.
+// The answer: after the eight numbers of a start, after the text of a notify or a publish, after the four numbers of a bus, the two of a read, the one of the others.
 pub fn answer_of(r: &[u8], kind: u16) -> u64 {
-    if kind == START {
-        return last(r);
+    match kind {
+        START | NOTIFY | PUBLISH => last(r),
+        BUS => number_at(r, FIRST + 32),
+        READ => number_at(r, FIRST + 16),
+        _ => number_at(r, FIRST + 8),
     }
-    if kind == NOTIFY {
-        return last(r);
-    }
-    number_at(r, FIRST + 8)
 }

@@ -1,10 +1,13 @@
 // Pieces of the text.
 use crate::record::AFTER;
+use crate::record::BUS;
 use crate::record::EVERY;
 use crate::record::LINK;
 use crate::record::MONITOR;
 use crate::record::NOTIFY;
+use crate::record::PUBLISH;
 use crate::record::SPAWN;
+use crate::record::SUBSCRIBE;
 use crate::record::UNLINK;
 use libc::STDOUT_FILENO;
 use records::reason::fg_reason_word;
@@ -104,6 +107,9 @@ pub fn call(kind: u16) {
         LINK => say(b"link"),
         UNLINK => say(b"unlink"),
         MONITOR => say(b"monitor"),
+        BUS => say(b"bus"),
+        PUBLISH => say(b"publish"),
+        SUBSCRIBE => say(b"subscribe"),
         _ => say(b"a call"),
     }
 }

@@ -54,7 +54,15 @@ fn bad_bus(entries: u64, subscribers: u64, reads: u64, age: u64) -> bool
 }
 
 // A new bus. 1: a setting is bad; 2: there are as many as there can be.
-pub fn bus_in(t: &mut [u64], p: &[u8], k: Caps, entries: u64, subscribers: u64, reads: u64, age: u64) -> Made
+pub fn bus_in(
+    t: &mut [u64],
+    p: &[u8],
+    k: Caps,
+    entries: u64,
+    subscribers: u64,
+    reads: u64,
+    age: u64,
+) -> Made
     requires { ⌜ Ready k (now t) (now p) ⌝ }
     ensures { λ r. ⌜ Gives (ruled (busEntry entries subscribers reads age)) k (now (t .entry)) (now (p .entry)) r (now (t .exit)) (now (p .entry)) ⌝ }
 {
@@ -183,7 +191,15 @@ fn copy_value(t: &[u64], p: &[u8], k: Caps, d: u64, bytes: u64, out: &mut [u8])
 }
 
 // The running actor, in seat n of bus b, reads the j-th value, for which there is room in a lent slice. 5: there is none.
-fn read_value(t: &mut [u64], p: &mut [u8], k: Caps, b: u64, n: u64, j: u64, out: &mut [u8]) -> Copied
+fn read_value(
+    t: &mut [u64],
+    p: &mut [u8],
+    k: Caps,
+    b: u64,
+    n: u64,
+    j: u64,
+    out: &mut [u8],
+) -> Copied
     requires { ⌜ Ready k (now t) (now p) × Of k (λ s. (n < MOST-SEATS) × (n ≡ seatOf s b (runner s)) × (j ≡ oldestUnread s b (runner s)) × (unreadLength s b (runner s) ≤ length (now out))) (now t) (now p) ⌝ }
     ensures { λ r. ⌜ Gives (afterTests 3 (readEntry b (length (now (out .entry))))) k (now (t .entry)) (now (p .entry)) (copyIn r (now (out .exit))) (now (t .exit)) (now (p .exit)) × Onto (r .length) (now (out .entry)) (now (out .exit)) ⌝ }
 {

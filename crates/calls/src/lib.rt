@@ -1,4 +1,5 @@
 // Each call of the runtime on buffers that hold a sound one: the answer and the state of its rule.
+pub mod buses;
 pub mod ids;
 pub mod messages;
 pub mod receiving;

@@ -44,7 +44,7 @@ abbrev pub Not : ℕ → ℕ → Type 0
 Not k j = k ≡ j → ⊥
 
 -- one more is told apart
-up : {j k : ℕ} → j ≤ k → Not k j → suc j ≤ k
+pub up : {j k : ℕ} → j ≤ k → Not k j → suc j ≤ k
 up l n = omega arith
 
 pub is-advance : (k : ℕ) → 24 ≤ k → k < 34 → Not k 33 → (((((((Unit {0} × Not k 24) × Not k 25) × Not k 26) × Not k 27) × Not k 28) × Not k 29) × Not k 30) × Not k 31 → k ≡ 32
@@ -65,7 +65,7 @@ below k l n = omega arith
 pub none-below : (k : ℕ) (r : List ℕ) → OfKind k r → k < FIRST → asked r ≡ unknown
 none-below k r h l = asked-as r k (h .right) (h .is) ∙ ap (λ x. readAs x r) (row-below k l)
 
-pub none-past : (k : ℕ) (r : List ℕ) → OfKind k r → 34 ≤ k → asked r ≡ unknown
+pub none-past : (k : ℕ) (r : List ℕ) → OfKind k r → 39 ≤ k → asked r ≡ unknown
 none-past k r h l = asked-as r k (h .right) (h .is) ∙ ap (λ x. readAs x r) (row-past k l)
 
 pub none-formed : (k : ℕ) (r : List ℕ) {b : Bool} → k ≡ kindOf r → b ≡ formed (rowOf k .shape) r → b ≡ false → asked r ≡ unknown

@@ -41,7 +41,7 @@ six (a ∷ b ∷ c ∷ d ∷ e ∷ f ∷ g ∷ l) h = absurd (omega arith)
 pub long-meets : (to tag : ℕ) (c d : List ℕ) → PAYLOAD-MOST < length c → PAYLOAD-MOST < length d → (w p : List ℕ) (a : Answer) (w′ p′ : List ℕ) →
     Meets (op (notify to tag c)) w p a w′ p′ → Meets (op (notify to tag d)) w p a w′ p′
 long-meets to tag c d x y w p a w′ p′ m =
-    let e : step (notify to tag c) ≡ step (notify to tag d) = fun-ext (λ (k : Caps). fun-ext (λ (s : State). notify-long to tag c d x y k s)) in
+    let e : step (notify to tag c) ≡ step (notify to tag d) = fun-ext (λ (k : Caps). fun-ext (λ (s : State). notify-long c d x y k s to tag)) in
     subst (λ (f : Caps → State → Out Answer). Called (plain 7) f w p a w′ p′) e m
 
 module _ (w p r w′ p′ : List ℕ) (b : Bool) where

@@ -16,13 +16,13 @@ use Rattle.trace.proofs.ReadLaws.{column-at, nth-number}
 
 -- ---- the three columns
 abbrev fores : List ℕ
-fores = 8 ∷ 1 ∷ 0 ∷ 0 ∷ 3 ∷ 4 ∷ 1 ∷ 0 ∷ 1 ∷ 1 ∷ 1 ∷ 1 ∷ 1 ∷ 1 ∷ 1 ∷ 1 ∷ 1 ∷ 0 ∷ []
+fores = 8 ∷ 1 ∷ 0 ∷ 0 ∷ 3 ∷ 4 ∷ 1 ∷ 0 ∷ 1 ∷ 1 ∷ 1 ∷ 1 ∷ 1 ∷ 1 ∷ 1 ∷ 1 ∷ 1 ∷ 0 ∷ 4 ∷ 2 ∷ 1 ∷ 1 ∷ 4 ∷ []
 
 abbrev longests : List ℕ
-longests = 0 ∷ 0 ∷ 0 ∷ 0 ∷ 252 ∷ 0 ∷ 252 ∷ 0 ∷ 0 ∷ 0 ∷ 0 ∷ 0 ∷ 0 ∷ 0 ∷ 0 ∷ 0 ∷ 0 ∷ 0 ∷ []
+longests = 0 ∷ 0 ∷ 0 ∷ 0 ∷ 252 ∷ 0 ∷ 252 ∷ 0 ∷ 0 ∷ 0 ∷ 0 ∷ 0 ∷ 0 ∷ 0 ∷ 0 ∷ 0 ∷ 0 ∷ 0 ∷ 0 ∷ 252 ∷ 0 ∷ 0 ∷ 252 ∷ []
 
 abbrev afts : List ℕ
-afts = 1 ∷ 2 ∷ 4 ∷ 1 ∷ 1 ∷ 5 ∷ 0 ∷ 3 ∷ 2 ∷ 2 ∷ 1 ∷ 1 ∷ 1 ∷ 2 ∷ 1 ∷ 3 ∷ 2 ∷ 7 ∷ []
+afts = 1 ∷ 2 ∷ 4 ∷ 1 ∷ 1 ∷ 5 ∷ 0 ∷ 3 ∷ 2 ∷ 2 ∷ 1 ∷ 1 ∷ 1 ∷ 2 ∷ 1 ∷ 3 ∷ 2 ∷ 7 ∷ 2 ∷ 1 ∷ 1 ∷ 1 ∷ 0 ∷ []
 
 pub form-at : (k : ℕ) → FIRST ≤ k → form (getD fores (k - FIRST) 0) (getD longests (k - FIRST) 0) (getD afts (k - FIRST) 0) ≡ rowOf k .shape
 form-at k h =
@@ -34,8 +34,8 @@ form-at k h =
 -- the kinds from 24 to 32 have one number in front
 fores-one : (j : ℕ) → j < 9 → getD fores (8 + j) 0 ≡ 1
 fores-one j l =
-    getD-append-add (8 ∷ 1 ∷ 0 ∷ 0 ∷ 3 ∷ 4 ∷ 1 ∷ 0 ∷ []) (replicate 9 1 ++ (0 ∷ [])) j 0
-    ∙ List·getD-append (replicate 9 1) (0 ∷ []) 0 j l
+    getD-append-add (8 ∷ 1 ∷ 0 ∷ 0 ∷ 3 ∷ 4 ∷ 1 ∷ 0 ∷ []) (replicate 9 1 ++ (0 ∷ 4 ∷ 2 ∷ 1 ∷ 1 ∷ 4 ∷ [])) j 0
+    ∙ List·getD-append (replicate 9 1) (0 ∷ 4 ∷ 2 ∷ 1 ∷ 1 ∷ 4 ∷ []) 0 j l
     ∙ getD-replicate 9 j 1 0 l
 
 pub fore-one : (k : ℕ) → 24 ≤ k → k < 33 → rowOf k .shape .fore ≡ 1

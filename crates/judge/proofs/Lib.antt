@@ -1,5 +1,6 @@
 -- The theorems, and the laws that the proofs of the functions cite.
 pub mod ArmLaws
+pub mod BusLaws
 pub mod CallLaws
 pub mod FeedLaws
 pub mod FormLaws

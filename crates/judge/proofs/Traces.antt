@@ -1,14 +1,15 @@
 -- THE THEOREMS ON TRACES, on one page. A trace is bytes; what they say of the calls rests on `Meets`, the promise of every call (rules/specs/Story.antt), and on the rules. Nothing else is assumed.
-use Prim.Native.Nat.{ℕ, suc, _<_}
+use Prim.Native.Nat.{ℕ, suc, _<_, _≤_}
 use mathlib.Core.Path.{_≡_}
 use mathlib.Core.Logic.{_↔_}
 use mathlib.Core.Bool.{Bool, true}
 use mathlib.Core.List.{List, [], _++_}
+use native.Mathlib.Omega.{arith}
 use lib.ListN.{length}
 use Rattle.ledger.specs.Call.{Answer, Line, Op, Sizes}
 use Rattle.ledger.specs.Call.Answer.{plain}
 use Rattle.ledger.specs.Call.Call.{start, op}
-use Rattle.ledger.specs.Call.Op.{notify}
+use Rattle.ledger.specs.Call.Op.{notify, publish, read}
 use Rattle.records.specs.Bytes.{Bytes}
 use Rattle.tables.specs.declared.Caps.{Caps}
 use Rattle.tables.specs.Limits.{PAYLOAD-MOST}
@@ -26,6 +27,7 @@ use Rattle.trace.proofs.KindLaws.{read-op, read-start}
 use Rattle.trace.proofs.TraceOk.{trace-ok, verdict-exactly}
 use Rattle.judge.specs.Feeding.{Bench, Comes, Run, joined, standing}
 use Rattle.judge.specs.Replayed.{Replayed}
+use Rattle.judge.proofs.BusLaws.{lengthy-meets, rooms-meet}
 use Rattle.judge.proofs.CallLaws.{long-meets}
 use Rattle.judge.proofs.Once.{replayed-once}
 use Rattle.judge.proofs.ReplayLaws.{replayed-comes}
@@ -56,6 +58,14 @@ no-two = one-call
 pub long-alike : (to tag : ℕ) (c d : List ℕ) → PAYLOAD-MOST < length c → PAYLOAD-MOST < length d → (w p : List ℕ) (a : Answer) (w′ p′ : List ℕ) →
     Meets (op (notify to tag c)) w p a w′ p′ → Meets (op (notify to tag d)) w p a w′ p′
 long-alike = long-meets
+
+pub published-alike : (b : ℕ) (c d : List ℕ) → PAYLOAD-MOST < length c → PAYLOAD-MOST < length d → (w p : List ℕ) (a : Answer) (w′ p′ : List ℕ) →
+    Meets (op (publish b c)) w p a w′ p′ → Meets (op (publish b d)) w p a w′ p′
+published-alike = lengthy-meets
+
+-- and so are reads to slices that are both of 252 bytes or more: how long they are does not matter
+pub room-alike : (b m n : ℕ) → PAYLOAD-MOST ≤ m → PAYLOAD-MOST ≤ n → (w p : List ℕ) (a : Answer) (w′ p′ : List ℕ) → Meets (op (read b m)) w p a w′ p′ → Meets (op (read b n)) w p a w′ p′
+room-alike b m n x y = rooms-meet b m n (omega arith)
 
 -- ---- THE VERDICT
 -- "A trace written from a successful start, of calls on its buffers that nobody else writes, always gives `ok`", where every number that was passed fits 64 bits, as C's do

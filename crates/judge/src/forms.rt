@@ -11,16 +11,88 @@ use trace::numbers::load64;
 // The first kind, and how many there are.
 pub const FIRST: u16 = 16;
 
-pub const KINDS: usize = 18;
+pub const KINDS: usize = 23;
 
 // For each kind the numbers in front of the text, ..
-const FORES: [usize; 18] = [8, 1, 0, 0, 3, 4, 1, 0, 1, 1, 1, 1, 1, 1, 1, 1, 1, 0];
+const FORES: [usize; 23] = [
+    8,
+    1,
+    0,
+    0,
+    3,
+    4,
+    1,
+    0,
+    1,
+    1,
+    1,
+    1,
+    1,
+    1,
+    1,
+    1,
+    1,
+    0,
+    4,
+    2,
+    1,
+    1,
+    4,
+];
 
 // .. the longest text that is recorded whole, ..
-const LONGESTS: [u64; 18] = [0, 0, 0, 0, 252, 0, 252, 0, 0, 0, 0, 0, 0, 0, 0, 0, 0, 0];
+const LONGESTS: [u64; 23] = [
+    0,
+    0,
+    0,
+    0,
+    252,
+    0,
+    252,
+    0,
+    0,
+    0,
+    0,
+    0,
+    0,
+    0,
+    0,
+    0,
+    0,
+    0,
+    0,
+    252,
+    0,
+    0,
+    252,
+];
 
 // .. and the numbers after it.
-const AFTS: [usize; 18] = [1, 2, 4, 1, 1, 5, 0, 3, 2, 2, 1, 1, 1, 2, 1, 3, 2, 7];
+const AFTS: [usize; 23] = [
+    1,
+    2,
+    4,
+    1,
+    1,
+    5,
+    0,
+    3,
+    2,
+    2,
+    1,
+    1,
+    1,
+    2,
+    1,
+    3,
+    2,
+    7,
+    2,
+    1,
+    1,
+    1,
+    0,
+];
 
 pub struct Form {
     pub fore: usize,

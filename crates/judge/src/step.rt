@@ -4,6 +4,12 @@ ghost use mathlib.Core.Bool.{false};
 ghost use Prim.Native.Nat.{_≤_, _<_};
 ghost use Rattle.trace.specs.Kinds.{asked};
 ghost use Rattle.judge.specs.Replayed.{OfKind, Replayed, isFirst};
+use crate::buses::judge_bus;
+use crate::buses::judge_lengthy;
+use crate::buses::judge_publish;
+use crate::buses::judge_read;
+use crate::buses::judge_subscribe;
+use crate::buses::judge_unsubscribe;
 use crate::each::judge_advance;
 use crate::each::judge_after;
 use crate::each::judge_cancel;
@@ -54,6 +60,32 @@ fn receive(t: &mut [u64], p: &mut [u8], r: &[u8]) -> bool
     judge_receive(t, p, r, sender, class, tag, wait)
 }
 
+// A new bus.
+fn bus_made(t: &mut [u64], p: &mut [u8], r: &[u8]) -> bool
+    requires { ⌜ OfKind 34 (now r) ⌝ }
+    ensures { λ b. ⌜ Replayed (asked (now (r .entry))) false (now (t .entry)) (now (p .entry)) (now (r .entry)) b (now (t .exit)) (now (p .exit)) ⌝ }
+{
+    let entries = load64(r, 4);
+    let subscribers = load64(r, 12);
+    let reads = load64(r, 20);
+    let age = load64(r, 28);
+    judge_bus(t, p, r, entries, subscribers, reads, age)
+}
+
+// What was published, recorded whole or by its length alone.
+fn published(t: &mut [u64], p: &mut [u8], r: &[u8]) -> bool
+    requires { ⌜ OfKind 35 (now r) ⌝ }
+    ensures { λ b. ⌜ Replayed (asked (now (r .entry))) false (now (t .entry)) (now (p .entry)) (now (r .entry)) b (now (t .exit)) (now (p .exit)) ⌝ }
+{
+    let bus = load64(r, 4);
+    let n = load64(r, 12);
+    if (PAYLOAD_MOST as u64) < n {
+        return judge_lengthy(t, p, r, bus, n);
+    }
+    let end = 20 + n as usize;
+    judge_publish(t, p, r, bus, &r[20..end])
+}
+
 // Kinds 17 to 23.
 fn lower_kinds(t: &mut [u64], p: &mut [u8], r: &[u8], kind: u16) -> bool
     requires { ⌜ OfKind kind (now r) × (17 ≤ kind) × (kind < 24) ⌝ }
@@ -92,6 +124,20 @@ fn upper_kinds(t: &mut [u64], p: &mut [u8], r: &[u8], kind: u16) -> bool
     }
 }
 
+// Kinds 34 to 38.
+fn bus_kinds(t: &mut [u64], p: &mut [u8], r: &[u8], kind: u16) -> bool
+    requires { ⌜ OfKind kind (now r) × (34 ≤ kind) × (kind < 39) ⌝ }
+    ensures { λ b. ⌜ Replayed (asked (now (r .entry))) false (now (t .entry)) (now (p .entry)) (now (r .entry)) b (now (t .exit)) (now (p .exit)) ⌝ }
+{
+    match kind {
+        34 => bus_made(t, p, r),
+        35 => published(t, p, r),
+        36 => judge_subscribe(t, p, r, load64(r, 4)),
+        37 => judge_unsubscribe(t, p, r, load64(r, 4)),
+        _ => judge_read(t, p, r, load64(r, 4), load64(r, 12)),
+    }
+}
+
 // Any kind but a start's.
 fn other(t: &mut [u64], p: &mut [u8], r: &[u8], kind: u16) -> bool
     requires { ⌜ OfKind kind (now r) × (kind ≡ 16 → ⊥) ⌝ }
@@ -105,6 +151,9 @@ fn other(t: &mut [u64], p: &mut [u8], r: &[u8], kind: u16) -> bool
     }
     if kind < 34 {
         return upper_kinds(t, p, r, kind);
+    }
+    if kind < 39 {
+        return bus_kinds(t, p, r, kind);
     }
     false
 }

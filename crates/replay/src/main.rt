@@ -68,7 +68,7 @@ fn run(t: &mut [u64], p: &mut [u8], buf: &mut [u8])
 }
 
 fn main() {
-    let mut t = [0u64; 4096];
+    let mut t = [0u64; 6144];
     let mut p = [0u8; 65536];
     let mut buf = [0u8; PIECE];
     run(&mut t, &mut p, &mut buf);

@@ -3,6 +3,7 @@ pub mod Answers
 pub mod BenchRun
 pub mod Buses
 pub mod BusRun
+pub mod Copies
 pub mod Ends
 pub mod Examples
 pub mod Host

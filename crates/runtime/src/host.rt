@@ -1,9 +1,16 @@
 // The host calls. Each tests the buffers, refuses unsound ones with 7, and else does what its rule says. None asks anything of its caller.
+ghost use lib.ListN.{length};
 ghost use Rattle.ledger.specs.Call.Answer.{plain};
 ghost use Rattle.ledger.specs.Call.Call.{op};
-ghost use Rattle.ledger.specs.Call.Op.{advance, after, cancel, demonitor, every, exit, link, monitor, next, notify, receive, report, shown, spawn, unlink, yield};
-ghost use Rattle.rules.specs.Run.{sayAdvanced, sayEnded, sayMade, sayReceived, sayReport, sayShown, sayTurn};
+ghost use Rattle.ledger.specs.Call.Op.{advance, after, bus, cancel, demonitor, every, exit, link, monitor, next, notify, publish, read, receive, report, shown, spawn, subscribe, unlink, unsubscribe, yield};
+ghost use Rattle.rules.specs.Host.{Onto, copyIn};
+ghost use Rattle.rules.specs.Run.{sayAdvanced, sayCopy, sayEnded, sayMade, sayReceived, sayReport, sayShown, sayTurn};
 ghost use Rattle.rules.specs.Story.{Meets};
+use calls::buses::bus_in;
+use calls::buses::publish_in;
+use calls::buses::read_in;
+use calls::buses::subscribe_in;
+use calls::buses::unsubscribe_in;
 use calls::messages::notify_in;
 use calls::messages::shown_in;
 use calls::receiving::receive_in;
@@ -21,6 +28,7 @@ use calls::timers::every_in;
 use endings::advance::advance_in;
 use endings::exit::exit_in;
 use rules::Advanced;
+use rules::Copied;
 use rules::Ended;
 use rules::Made;
 use rules::Received;
@@ -239,4 +247,67 @@ pub extern "C" fn fg_report(t: &mut [u64], p: &mut [u8]) -> Report
         no: 7,
         free: [0; 6],
     }
+}
+
+// A new bus, for so many entries and subscribers; an entry ends after a number of reads, or at an age in milliseconds, 0 for neither: 0 and its number, from 0 on. 1: such a bus is malformed; 2: there are 32.
+#[no_mangle]
+pub extern "C" fn fg_bus(
+    t: &mut [u64],
+    p: &mut [u8],
+    entries: u64,
+    subscribers: u64,
+    reads: u64,
+    age: u64,
+) -> Made
+    ensures { λ r. ⌜ Meets (op (bus entries subscribers reads age)) (now (t .entry)) (now (p .entry)) (sayMade r) (now (t .exit)) (now (p .exit)) ⌝ }
+{
+    if sound(t, p) {
+        return bus_in(t, p, caps_of(t), entries, subscribers, reads, age);
+    }
+    Made { no: 7, id: 0 }
+}
+
+// A payload for all who are subscribed to a bus now; where the bus is full, its oldest entry ends first. 4: nobody runs; 1: such a length is malformed; 3: no such bus; 2: no room.
+#[no_mangle]
+pub extern "C" fn fg_publish(t: &mut [u64], p: &mut [u8], bus: u64, payload: &[u8]) -> u64
+    ensures { λ r. ⌜ Meets (op (publish bus (now (payload .entry)))) (now (t .entry)) (now (p .entry)) (plain r) (now (t .exit)) (now (p .exit)) ⌝ }
+{
+    if sound(t, p) {
+        return publish_in(t, p, caps_of(t), bus, payload);
+    }
+    7
+}
+
+// The caller subscribes to a bus: it can read what is published from now on. 4: nobody runs; 1: it is subscribed already; 3: no such bus; 2: the bus has as many as it can have.
+#[no_mangle]
+pub extern "C" fn fg_subscribe(t: &mut [u64], p: &mut [u8], bus: u64) -> u64
+    ensures { λ r. ⌜ Meets (op (subscribe bus)) (now (t .entry)) (now (p .entry)) (plain r) (now (t .exit)) (now (p .exit)) ⌝ }
+{
+    if sound(t, p) {
+        return subscribe_in(t, p, caps_of(t), bus);
+    }
+    7
+}
+
+// The caller's subscription to a bus ends. 4: nobody runs; 3: there is none.
+#[no_mangle]
+pub extern "C" fn fg_unsubscribe(t: &mut [u64], p: &mut [u8], bus: u64) -> u64
+    ensures { λ r. ⌜ Meets (op (unsubscribe bus)) (now (t .entry)) (now (p .entry)) (plain r) (now (t .exit)) (now (p .exit)) ⌝ }
+{
+    if sound(t, p) {
+        return unsubscribe_in(t, p, caps_of(t), bus);
+    }
+    7
+}
+
+// The oldest payload of a bus that the caller has not read is copied to the front of a slice: 0 and its length. 4: nobody runs; 1: the slice is too short, and the payload stays unread; 3: not subscribed; 5: nothing new.
+#[no_mangle]
+pub extern "C" fn fg_read(t: &mut [u64], p: &mut [u8], bus: u64, out: &mut [u8]) -> Copied
+    ensures { λ r. ⌜ Meets (op (read bus (length (now (out .entry))))) (now (t .entry)) (now (p .entry)) (sayCopy (copyIn r (now (out .exit)))) (now (t .exit)) (now (p .exit)) ⌝ }
+    ensures { λ r. ⌜ Onto (r .length) (now (out .entry)) (now (out .exit)) ⌝ }
+{
+    if sound(t, p) {
+        return read_in(t, p, caps_of(t), bus, out);
+    }
+    Copied { no: 7, length: 0 }
 }

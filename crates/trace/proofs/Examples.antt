@@ -7,6 +7,7 @@ use Rattle.records.specs.Bytes.{le}
 use Rattle.tables.specs.State.{poke, with-col}
 use Rattle.tables.specs.Action.{push}
 use Rattle.rules.specs.Actions.{ready}
+use Rattle.rules.specs.Buses.{makeBus}
 use Rattle.rules.specs.Calls.{ruled}
 use Rattle.rules.specs.Host.{fresh, freed, stated, zeroed}
 use Rattle.rules.specs.Trim.{newly}
@@ -23,9 +24,9 @@ abbrev one : ℕ → List ℕ
 one x = two x 0
 
 -- ---- records
--- kind 16, a start: 64 words, this many times 256 bytes, some actors, one mailbox entry, one data entry, no links, monitors, timers; the answer
+-- kind 16, a start: 1,280 words, this many times 256 bytes, some actors, one mailbox entry, one data entry, no links, monitors, timers; the answer
 abbrev STARTS : ℕ → ℕ → ℕ → List ℕ
-STARTS pages actors answer = 74 ∷ 0 ∷ 16 ∷ 0 ∷ (one 64 ++ (two 0 pages ++ (one actors ++ (one 1 ++ (one 1 ++ (one 0 ++ (one 0 ++ (one 0 ++ one answer))))))))
+STARTS pages actors answer = 74 ∷ 0 ∷ 16 ∷ 0 ∷ (two 0 5 ++ (two 0 pages ++ (one actors ++ (one 1 ++ (one 1 ++ (one 0 ++ (one 0 ++ (one 0 ++ one answer))))))))
 
 abbrev START : List ℕ
 START = STARTS 1 1 0
@@ -45,6 +46,18 @@ YIELD = 10 ∷ 0 ∷ 19 ∷ 0 ∷ one 4
 -- kind 20, a notify while nobody runs: to 0, tag 0, this length and these bytes; 4
 abbrev NOTIFY : ℕ → ℕ → List ℕ → List ℕ
 NOTIFY size n m = size ∷ 0 ∷ 20 ∷ 0 ∷ (one 0 ++ (one 0 ++ (one n ++ (m ++ one 4))))
+
+-- kind 34, a bus of three entries and two subscribers, that ends them after no number of reads and at no age: 0, and this number
+abbrev BUS : ℕ → List ℕ
+BUS id = 50 ∷ 0 ∷ 34 ∷ 0 ∷ (one 3 ++ (one 2 ++ (one 0 ++ (one 0 ++ (one 0 ++ one id)))))
+
+-- kind 35, a publish while nobody runs: on bus 0, this length and these bytes; 4
+abbrev PUBLISH : ℕ → ℕ → List ℕ → List ℕ
+PUBLISH size n m = size ∷ 0 ∷ 35 ∷ 0 ∷ (one 0 ++ (one n ++ (m ++ one 4)))
+
+-- kind 38, a read while nobody runs: of bus 0, to a slice of 65,280 bytes; 4, and this many bytes were copied, these
+abbrev READ : ℕ → ℕ → List ℕ → List ℕ
+READ size n m = size ∷ 0 ∷ 38 ∷ 0 ∷ (one 0 ++ (two 0 255 ++ (one 4 ++ (one n ++ m))))
 
 -- ---- verdicts
 -- "No input gives `ok 0`"
@@ -123,3 +136,31 @@ tells-long = refl
 pub tells-none : verdict (START ++ NOTIFY 34 3 []) ≡ bad 1
 unfolding judge rightOne formed callOf rowOf encode bytes le
 tells-none = refl
+
+-- ---- buses
+-- the first is bus 0, the next bus 1
+pub makes-bus : verdict (START ++ (BUS 0 ++ BUS 1)) ≡ ok 3
+unfolding judge rightOne formed callOf rowOf encode bytes le newly fresh freed stated zeroed with-col poke ruled makeBus
+makes-bus = refl
+
+pub not-bus-1 : verdict (START ++ BUS 1) ≡ bad 1
+unfolding judge rightOne formed callOf rowOf encode bytes le newly fresh freed stated zeroed with-col poke ruled makeBus
+not-bus-1 = refl
+
+-- what is published has three bytes; 253, by their number alone
+pub publishes : verdict (START ++ PUBLISH 29 3 (7 ∷ 8 ∷ 9 ∷ [])) ≡ ok 2
+unfolding judge rightOne formed callOf rowOf encode bytes le newly fresh freed stated zeroed with-col poke ruled
+publishes = refl
+
+pub publishes-long : verdict (START ++ PUBLISH 26 253 []) ≡ ok 2
+unfolding judge rightOne formed callOf rowOf encode bytes le newly fresh freed stated zeroed with-col poke ruled
+publishes-long = refl
+
+-- beside a refusal nothing was copied
+pub reads : verdict (START ++ READ 34 0 []) ≡ ok 2
+unfolding judge rightOne formed callOf rowOf encode bytes le newly fresh freed stated zeroed with-col poke ruled
+reads = refl
+
+pub reads-not : verdict (START ++ READ 35 1 (7 ∷ [])) ≡ bad 1
+unfolding judge rightOne formed callOf rowOf encode bytes le newly fresh freed stated zeroed with-col poke ruled
+reads-not = refl

@@ -92,6 +92,21 @@ notify-passes bs b h =
     (λ q. rw q (length-replicate {A = ℕ} n 0)) in
     record { small = (target, (tag, (rw e size, record {}))); signs = record {} }
 
+-- what is published, the same
+publish-passes : RowPasses (rowOf 35)
+unfolding rowOf
+publish-passes bs b h =
+    let (bus, (size, _)) = fronts 2 bs b in
+    let l = drop 16 (drop 4 bs) in
+    let n = nth (numbersIn 2 (drop 4 bs)) 1 in
+    let e₁ : length (drop 4 bs) ≡ length bs - 4 = length-drop 4 bs in
+    let e₂ : length l ≡ length (drop 4 bs) - 16 = length-drop 16 (drop 4 bs) in
+    let e : length (stood n (textOf (rowOf 35 .shape) bs)) ≡ n =
+    split (leb n PAYLOAD-MOST)
+    (λ q. let e₃ : length bs ≡ 4 + (16 + (n + 8)) = rw q at (long (rowOf 35 .shape) bs b h) in rw q (length-take-le n l (omega arith)))
+    (λ q. rw q (length-replicate {A = ℕ} n 0)) in
+    record { small = (bus, (rw e size, record {})); signs = record {} }
+
 -- a wait, signed
 receive-passes : RowPasses (rowOf 21)
 unfolding rowOf
@@ -122,6 +137,11 @@ all-pass =
     also 31 by (λ bs b h. record { small = fronts 1 bs b; signs = record {} })
     also 32 by (λ bs b h. record { small = fronts 1 bs b; signs = record {} })
     also 33 by (λ bs b h. record { small = fronts 0 bs b; signs = record {} })
+    also 34 by (λ bs b h. record { small = fronts 4 bs b; signs = record {} })
+    also 35 by publish-passes
+    also 36 by (λ bs b h. record { small = fronts 1 bs b; signs = record {} })
+    also 37 by (λ bs b h. record { small = fronts 1 bs b; signs = record {} })
+    also 38 by (λ bs b h. let (bus, (room, _)) = fronts 4 bs b in record { small = (bus, (room, record {})); signs = record {} })
     also end
 
 row-passes : {rs : List Row} (i : ℕ) → AllPass rs → RowPasses (getD rs i noRow)

@@ -1,24 +1,28 @@
 -- Each call is read back from its record.
-use Prim.Native.Nat.{ℕ, _+_, _-_, _*_, _^_, _<_, _≤_}
-use mathlib.Core.Path.{_≡_, refl, ap, _∙_}
+use Prim.Native.Nat.{ℕ, _+_, _-_, _*_, _^_, _<_, _≤_, min}
+use mathlib.Core.Path.{_≡_, refl, sym, ap, _∙_}
 use mathlib.Core.Bool.{cond, true}
 use mathlib.Core.List.{List, [], _++_}
 use native.Mathlib.Omega.{arith}
 use lib.ListN.{length, length-append, length-replicate, replicate}
 use lib.IntN.{ℤ, pos, negsuc}
 use lib.Dec.{eqb, leb, ltb}
-use borrow.Author.Tests.{le-leb, le-ltb, leb-false, leb-true, lt-leb, lt-ltb, ltb-false}
+use borrow.Author.Tests.{le-leb, le-ltb, leb-false, leb-true, lt-leb, lt-ltb, ltb-false, ltb-true}
 use Rattle.ledger.specs.Call.{Answer, Op, Sizes}
 use Rattle.ledger.specs.Call.Answer.{plain}
 use Rattle.ledger.specs.Call.Call.{start, op}
-use Rattle.ledger.specs.Call.Op.{spawn, next, yield, notify, receive, show, shown, after, every, cancel, link, unlink, monitor, demonitor, exit, advance, report}
+use Rattle.ledger.specs.Call.Op.{spawn, next, yield, notify, receive, show, shown, after, every, cancel, link, unlink, monitor, demonitor, exit, advance, report, bus, publish, subscribe, unsubscribe, read}
 use Rattle.pools.proofs.BoolLaws.{split}
 use Rattle.tables.specs.declared.Caps.{Caps}
-use Rattle.tables.specs.State.{State}
+use Rattle.tables.specs.State.{State, at, head}
+use Rattle.tables.specs.Columns.{ISSUED, LENGTH}
 use Rattle.tables.specs.Limits.{ANY-TAG, PAYLOAD-MOST}
+use Rattle.rules.specs.Buses.{oldestUnread, unreadLength, valueAt}
+use Rattle.rules.specs.Good.{Good}
 use Rattle.rules.specs.Terms.{runner}
 use Rattle.rules.specs.Calls.{entry, ruled}
 use Rattle.rules.specs.Run.{step}
+use Rattle.rules.proofs.Kept.Clauses.{length-fits}
 use Rattle.trace.specs.Codec.{Note, Small, Stated, body, bytes, formed, frontOf, textLength, words}
 use Rattle.trace.specs.Kinds.{AllSigned, Fits, Signed, abridged, asked, callOf, encode, kept, lengthRight, noteOf, opening, readAs, rowOf, signed, startArgs, unsigned}
 use Rattle.trace.specs.Kinds.Asked.{asks, begins}
@@ -101,6 +105,11 @@ known (demonitor x) k s = record { kinds = refl; small = omega arith; fronts = r
 known (exit x) k s = record { kinds = refl; small = omega arith; fronts = refl; texts = refl; backs = refl; size = short (done (exit x) k s) (omega arith) (omega arith) (omega arith); calls = λ h. refl }
 known (advance x) k s = record { kinds = refl; small = omega arith; fronts = refl; texts = refl; backs = refl; size = short (done (advance x) k s) (omega arith) (omega arith) (omega arith); calls = λ h. refl }
 known report k s = record { kinds = refl; small = omega arith; fronts = refl; texts = refl; backs = refl; size = short (done report k s) (omega arith) (omega arith) (omega arith); calls = λ h. refl }
+known (bus x y c d) k s = record { kinds = refl; small = omega arith; fronts = refl; texts = refl; backs = refl; size = short (done (bus x y c d) k s) (omega arith) (omega arith) (omega arith); calls = λ h. refl }
+known (publish x c) k s = record { kinds = refl; small = omega arith; fronts = refl; texts = kept-length c; backs = refl; size = short (done (publish x c) k s) (omega arith) (kept-most c) (omega arith); calls = λ h. refl }
+known (subscribe x) k s = record { kinds = refl; small = omega arith; fronts = refl; texts = refl; backs = refl; size = short (done (subscribe x) k s) (omega arith) (omega arith) (omega arith); calls = λ h. refl }
+known (unsubscribe x) k s = record { kinds = refl; small = omega arith; fronts = refl; texts = refl; backs = refl; size = short (done (unsubscribe x) k s) (omega arith) (omega arith) (omega arith); calls = λ h. refl }
+known (read x y) k s = record { kinds = refl; small = omega arith; fronts = refl; texts = kept-length (ruled (entry (read x y)) k s .ans .bytes); backs = refl; size = short (done (read x y) k s) (omega arith) (kept-most (ruled (entry (read x y)) k s .ans .bytes)) (omega arith); calls = λ h. refl }
 
 -- so it is stated as its kind asks
 known-stated : (o : Op) (k : Caps) (s : State) → Small (done o k s .front) → Stated (rowOf (done o k s .kind) .shape) (done o k s)
@@ -123,24 +132,31 @@ read-start w p z n h = asked-bytes (noteOf w p (start z) (plain n)) (record { fr
 
 -- ---- a payload over 252 bytes: record and rule know its length alone
 -- of the call that is read back all is true that is true of the call itself, if it is for two payloads that are too long and as long
-abridged-by : (P : Op → Op → Type 0) → ((o : Op) → P o o) → ((a b : ℕ) (c : List ℕ) → PAYLOAD-MOST < length c → P (notify a b (replicate (length c) 0)) (notify a b c)) → (o : Op) → P (abridged o) o
-abridged-by P same long (spawn x) = same (spawn x)
-abridged-by P same long next = same next
-abridged-by P same long yield = same yield
-abridged-by P same long (notify x y c) = split (leb (length c) PAYLOAD-MOST) (λ q. rw q (same (notify x y c))) (λ q. rw q (long x y c (leb-false _ _ q)))
-abridged-by P same long (receive x y c d) = same (receive x y c d)
-abridged-by P same long show = same show
-abridged-by P same long shown = same shown
-abridged-by P same long (after x) = same (after x)
-abridged-by P same long (every x) = same (every x)
-abridged-by P same long (cancel x) = same (cancel x)
-abridged-by P same long (link x) = same (link x)
-abridged-by P same long (unlink x) = same (unlink x)
-abridged-by P same long (monitor x) = same (monitor x)
-abridged-by P same long (demonitor x) = same (demonitor x)
-abridged-by P same long (exit x) = same (exit x)
-abridged-by P same long (advance x) = same (advance x)
-abridged-by P same long report = same report
+module _ (P : Op → Op → Type 0) (same : (o : Op) → P o o) (notified : (a b : ℕ) (c : List ℕ) → PAYLOAD-MOST < length c → P (notify a b (replicate (length c) 0)) (notify a b c))
+    (published : (a : ℕ) (c : List ℕ) → PAYLOAD-MOST < length c → P (publish a (replicate (length c) 0)) (publish a c)) where
+  abridged-by : (o : Op) → P (abridged o) o
+  abridged-by (notify x y c) = split (leb (length c) PAYLOAD-MOST) (λ q. rw q (same (notify x y c))) (λ q. rw q (notified x y c (leb-false _ _ q)))
+  abridged-by (publish x c) = split (leb (length c) PAYLOAD-MOST) (λ q. rw q (same (publish x c))) (λ q. rw q (published x c (leb-false _ _ q)))
+  abridged-by (spawn x) = same (spawn x)
+  abridged-by next = same next
+  abridged-by yield = same yield
+  abridged-by (receive x y c d) = same (receive x y c d)
+  abridged-by show = same show
+  abridged-by shown = same shown
+  abridged-by (after x) = same (after x)
+  abridged-by (every x) = same (every x)
+  abridged-by (cancel x) = same (cancel x)
+  abridged-by (link x) = same (link x)
+  abridged-by (unlink x) = same (unlink x)
+  abridged-by (monitor x) = same (monitor x)
+  abridged-by (demonitor x) = same (demonitor x)
+  abridged-by (exit x) = same (exit x)
+  abridged-by (advance x) = same (advance x)
+  abridged-by report = same report
+  abridged-by (bus x y c d) = same (bus x y c d)
+  abridged-by (subscribe x) = same (subscribe x)
+  abridged-by (unsubscribe x) = same (unsubscribe x)
+  abridged-by (read x y) = same (read x y)
 
 -- the record is the same
 pub abridged-same : (o : Op) (a : Answer) → encode 0 0 (op (abridged o)) a ≡ encode 0 0 (op o) a
@@ -148,17 +164,45 @@ unfolding encode
 abridged-same o a =
     abridged-by (λ x y. encode 0 0 (op x) a ≡ encode 0 0 (op y) a) (λ x. refl)
     (λ x y c q. let n : length (replicate (length c) 0) ≡ length c = length-replicate {A = ℕ} (length c) 0 in rw (n, lt-leb (length c) PAYLOAD-MOST q))
+    (λ x c q. let n : length (replicate (length c) 0) ≡ length c = length-replicate {A = ℕ} (length c) 0 in rw (n, lt-leb (length c) PAYLOAD-MOST q))
     o
 
 -- THE ANSWER DOES NOT DEPEND ON THE BYTES of a payload over 252, nor does the state
-pub notify-long : (to tag : ℕ) (c d : List ℕ) → PAYLOAD-MOST < length c → PAYLOAD-MOST < length d → (k : Caps) (s : State) → step (notify to tag c) k s ≡ step (notify to tag d) k s
-unfolding ruled
-notify-long to tag c d x y k s =
-    split (eqb (runner s) 0) (λ q. rw q)
-    (λ q. split (leb ANY-TAG tag) (λ p. rw (q, p)) (λ p. rw (q, p, lt-ltb PAYLOAD-MOST (length c) x, lt-ltb PAYLOAD-MOST (length d) y)))
+module _ (c d : List ℕ) (x : PAYLOAD-MOST < length c) (y : PAYLOAD-MOST < length d) (k : Caps) (s : State) where
+  pub notify-long : (to tag : ℕ) → step (notify to tag c) k s ≡ step (notify to tag d) k s
+  unfolding ruled
+  notify-long to tag =
+      split (eqb (runner s) 0) (λ q. rw q)
+      (λ q. split (leb ANY-TAG tag) (λ p. rw (q, p)) (λ p. rw (q, p, lt-ltb PAYLOAD-MOST (length c) x, lt-ltb PAYLOAD-MOST (length d) y)))
+
+  pub publish-long : (b : ℕ) → step (publish b c) k s ≡ step (publish b d) k s
+  unfolding ruled
+  publish-long b = split (eqb (runner s) 0) (λ q. rw q) (λ q. rw (q, lt-ltb PAYLOAD-MOST (length c) x, lt-ltb PAYLOAD-MOST (length d) y))
 
 pub abridged-step : (o : Op) (k : Caps) (s : State) → step (abridged o) k s ≡ step o k s
 abridged-step o k s =
     abridged-by (λ x y. step x k s ≡ step y k s) (λ x. refl)
-    (λ x y c q. notify-long x y (replicate (length c) 0) c (rw (length-replicate {A = ℕ} (length c) 0) q) q k s)
+    (λ x y c q. notify-long (replicate (length c) 0) c (rw (length-replicate {A = ℕ} (length c) 0) q) q k s x y)
+    (λ x c q. publish-long (replicate (length c) 0) c (rw (length-replicate {A = ℕ} (length c) 0) q) q k s x)
     o
+
+-- ---- the room of a read: a number of any size
+-- THE ANSWER DEPENDS ON THE ROOM only by whether the oldest unread payload fits in it, and so does the state
+pub read-room : (b m n : ℕ) (k : Caps) (s : State) → ltb m (unreadLength s b (runner s)) ≡ ltb n (unreadLength s b (runner s)) → step (read b m) k s ≡ step (read b n) k s
+unfolding ruled
+read-room b m n k s e = split (eqb (runner s) 0) (λ q. rw q) (λ q. rw (q, e))
+
+-- that of a sound runtime is at most 252 bytes
+unread-fits : (b a : ℕ) (k : Caps) (s : State) → Good k s → unreadLength s b a ≤ PAYLOAD-MOST
+unread-fits b a k s g =
+    split (ltb (oldestUnread s b a) (head s ISSUED)) (λ q. rw q (length-fits g (valueAt s (oldestUnread s b a)))) (λ q. rw q (omega arith))
+
+-- so a slice of 252 bytes stands for every longer one
+pub read-most : (b n : ℕ) (k : Caps) (s : State) → Good k s → step (read b (min n PAYLOAD-MOST)) k s ≡ step (read b n) k s
+read-most b n k s g =
+    let u = unreadLength s b (runner s) in
+    let h : u ≤ PAYLOAD-MOST = unread-fits b (runner s) k s g in
+    read-room b (min n PAYLOAD-MOST) n k s
+    (split (ltb n u)
+    (λ q. lt-ltb (min n PAYLOAD-MOST) u (omega (arith, ltb-true n u q)) ∙ sym q)
+    (λ q. le-ltb (min n PAYLOAD-MOST) u (omega (arith, h, ltb-false n u q)) ∙ sym q))

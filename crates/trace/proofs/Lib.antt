@@ -1,6 +1,7 @@
 -- The theorems, and the laws that they and the proofs of the functions cite.
 pub mod CodecLaws
 pub mod Examples
+pub mod FitLaws
 pub mod Inverse
 pub mod KindLaws
 pub mod MatchLaws

@@ -83,7 +83,12 @@ plain-row (suc (suc (suc (suc (suc (suc (suc (suc (suc (suc (suc (suc (suc zero)
 plain-row (suc (suc (suc (suc (suc (suc (suc (suc (suc (suc (suc (suc (suc (suc zero)))))))))))))) ns t = Plain.call _
 plain-row (suc (suc (suc (suc (suc (suc (suc (suc (suc (suc (suc (suc (suc (suc (suc zero))))))))))))))) ns t = Plain.call _
 plain-row (suc (suc (suc (suc (suc (suc (suc (suc (suc (suc (suc (suc (suc (suc (suc (suc zero)))))))))))))))) ns t = Plain.call _
-plain-row (suc (suc (suc (suc (suc (suc (suc (suc (suc (suc (suc (suc (suc (suc (suc (suc (suc i))))))))))))))))) ns t = Plain.none
+plain-row (suc (suc (suc (suc (suc (suc (suc (suc (suc (suc (suc (suc (suc (suc (suc (suc (suc zero))))))))))))))))) ns t = Plain.call _
+plain-row (suc (suc (suc (suc (suc (suc (suc (suc (suc (suc (suc (suc (suc (suc (suc (suc (suc (suc zero)))))))))))))))))) ns t = Plain.call _
+plain-row (suc (suc (suc (suc (suc (suc (suc (suc (suc (suc (suc (suc (suc (suc (suc (suc (suc (suc (suc zero))))))))))))))))))) ns t = Plain.call _
+plain-row (suc (suc (suc (suc (suc (suc (suc (suc (suc (suc (suc (suc (suc (suc (suc (suc (suc (suc (suc (suc zero)))))))))))))))))))) ns t = Plain.call _
+plain-row (suc (suc (suc (suc (suc (suc (suc (suc (suc (suc (suc (suc (suc (suc (suc (suc (suc (suc (suc (suc (suc zero))))))))))))))))))))) ns t = Plain.call _
+plain-row (suc (suc (suc (suc (suc (suc (suc (suc (suc (suc (suc (suc (suc (suc (suc (suc (suc (suc (suc (suc (suc (suc i)))))))))))))))))))))) ns t = Plain.none
 
 pub plain-kind : (r : List ℕ) (k : ℕ) → lengthRight r ≡ true → kindOf r ≡ k → (k ≡ FIRST → ⊥) → Plain (asked r)
 plain-kind r k h e n =

@@ -10,7 +10,6 @@ use lib.Dec.{eqb, leb}
 use Rattle.ledger.specs.Call.{Answer, Call, Line, Op, Sizes}
 use Rattle.ledger.specs.Call.Answer.{plain}
 use Rattle.ledger.specs.Call.Call.{start, op}
-use Rattle.ledger.specs.Call.Op.{spawn, next, yield, notify, receive, show, shown, after, every, cancel, link, unlink, monitor, demonitor, exit, advance, report}
 use Rattle.pools.proofs.BoolLaws.{and-left, split}
 use Rattle.records.specs.Bytes.{Bytes, ofLe}
 use Rattle.tables.specs.declared.Caps.{Caps}
@@ -42,6 +41,7 @@ use Rattle.trace.specs.Verdict.Taken.{go}
 use Rattle.trace.specs.Verdict.Verdict.{ok, bad}
 use Rattle.trace.specs.Writing.{Fitted, Fitting, Means, Passes, done, written}
 use Rattle.trace.proofs.CodecLaws.{length-bytes, size-bytes}
+use Rattle.trace.proofs.FitLaws.{fits-op}
 use Rattle.trace.proofs.KindLaws.{abridged-same, abridged-step, known, read-op, read-start, short-start}
 use Rattle.trace.proofs.OkLaws.{ok-fits, same-refl, verdict-means}
 use Rattle.trace.proofs.StepLaws.{from-cut, from-next, from-none, from-whole}
@@ -85,40 +85,6 @@ unfolding rightOne
 said-op o k s =
     ap (λ (x : Out Answer). right (encode 0 0 (op (abridged o)) (x .ans)) (stands k (x .state))) (abridged-step o k s)
     ∙ ap (λ (x : List ℕ). right x (stands k (step o k s .state))) (abridged-same o (step o k s .ans))
-
--- ---- the numbers in front of an answer fit where those that were passed do
--- of a sound runtime, a shown part is no longer than the payload area
-part-small : (k : Caps) (s : State) → Good k s → length (ruled (entry show) k s .ans) < 256 ^ 8
-unfolding ruled
-part-small k s g =
-    split (eqb (runner s) 0) (λ q. rw q (omega arith))
-    (λ q. split (eqb (at s HAND (runner s - 1)) 0) (λ h. rw (q, h) (omega arith))
-    (λ h. rw (q, h) (omega (arith, part-within (at s LENGTH (at s HAND (runner s - 1) - 1)) (ENTRY-BYTES * (at s HAND (runner s - 1) - 1) + HEADER-BYTES) (s PAYLOAD), g .sized .bytes, g .range .fewDatas))))
-  where
-    part-within : (n o : ℕ) (l : List ℕ) → length (take n (drop o l)) ≤ length l
-    part-within n o l = let d : length (drop o l) ≡ length l - o = length-drop o l in let t = length-take n (drop o l) in omega arith
-
-front-small : (o : Op) (k : Caps) (s : State) → Good k s → Small (opening o .numbers) → Small (done o k s .front)
-front-small (spawn a) k s g h = h
-front-small next k s g h = h
-front-small yield k s g h = h
-front-small (notify a b c) k s g h = h
-front-small (receive a b c d) k s g h = h
-front-small show k s g h = (part-small k s g, record {})
-front-small shown k s g h = h
-front-small (after a) k s g h = h
-front-small (every a) k s g h = h
-front-small (cancel a) k s g h = h
-front-small (link a) k s g h = h
-front-small (unlink a) k s g h = h
-front-small (monitor a) k s g h = h
-front-small (demonitor a) k s g h = h
-front-small (exit a) k s g h = h
-front-small (advance a) k s g h = h
-front-small report k s g h = h
-
-fits-op : (o : Op) (k : Caps) (s : State) → Good k s → Passes 0 0 (op o) → Fits 0 0 (op o) (step o k s .ans)
-fits-op o k s g h = record { small = front-small o k s g (h .small); signs = h .signs }
 
 -- ---- WHAT `Traced` SAYS IS ENOUGH
 -- nothing, or a sound runtime

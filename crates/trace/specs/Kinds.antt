@@ -6,9 +6,9 @@ use lib.ListN.{length, getD, replicate}
 use lib.IntN.{ℤ, pos, negsuc}
 use lib.Dec.{leb, ltb}
 use Rattle.ledger.specs.Call.{Answer, Call, Op, Sizes}
-use Rattle.ledger.specs.Call.Answer.{plain, made, turn, received, part, place, ended, advanced, counts}
+use Rattle.ledger.specs.Call.Answer.{plain, made, turn, received, part, place, ended, advanced, counts, copied}
 use Rattle.ledger.specs.Call.Call.{start, op}
-use Rattle.ledger.specs.Call.Op.{spawn, next, yield, notify, receive, show, shown, after, every, cancel, link, unlink, monitor, demonitor, exit, advance, report}
+use Rattle.ledger.specs.Call.Op.{spawn, next, yield, notify, receive, show, shown, after, every, cancel, link, unlink, monitor, demonitor, exit, advance, report, bus, publish, subscribe, unsubscribe, read}
 use Rattle.tables.specs.Limits.{PAYLOAD-MOST}
 use Rattle.trace.specs.Codec.{Form, Note, Small, bytes, form, formed, frontOf, kindOf, textOf}
 
@@ -76,6 +76,11 @@ rows =
     ∷ row 1 0 3 (one exit)
     ∷ row 1 0 2 (one advance)
     ∷ row 0 0 7 (bare report)
+    ∷ row 4 0 2 (λ ns t. asks (bus (nth ns 0) (nth ns 1) (nth ns 2) (nth ns 3)))
+    ∷ row 2 PAYLOAD-MOST 1 (λ ns t. asks (publish (nth ns 0) (stood (nth ns 1) t)))
+    ∷ row 1 0 1 (one subscribe)
+    ∷ row 1 0 1 (one unsubscribe)
+    ∷ row 4 PAYLOAD-MOST 0 (λ ns t. asks (read (nth ns 0) (nth ns 1)))
     ∷ []
 
 -- 1 to 4 are records inside messages, and never a trace's
@@ -135,12 +140,17 @@ opening (demonitor a) = opens 30 (a ∷ []) (demonitor a)
 opening (exit a) = opens 31 (a ∷ []) (exit a)
 opening (advance a) = opens 32 (a ∷ []) (advance a)
 opening report = opens 33 [] report
+opening (bus a b c d) = opens 34 (a ∷ b ∷ c ∷ d ∷ []) (bus a b c d)
+opening (publish a c) = record { kind = 35; numbers = a ∷ length c ∷ []; signs = []; text = kept c; back = publish a (stood (length c) (kept c)) }
+opening (subscribe a) = opens 36 (a ∷ []) (subscribe a)
+opening (unsubscribe a) = opens 37 (a ∷ []) (unsubscribe a)
+opening (read a b) = opens 38 (a ∷ b ∷ []) (read a b)
 
 -- the call that is read back from the record of a call
 abbrev pub abridged : Op → Op
 abridged o = opening o .back
 
--- ---- a call and its answer as a note
+-- ---- a call and its answer as a note: where the answer is a text, the text's length and what is answered beside it stand in front of it, after what was passed
 abbrev pub noted : ℕ → List ℕ → List ℕ → List ℕ → Note
 noted k ns t ms = record { kind = k; front = ns; text = t; back = ms }
 
@@ -154,6 +164,7 @@ noteWith k ns t (place n o l) = noted k ns t (n ∷ o ∷ l ∷ [])
 noteWith k ns t (ended n s l) = noted k ns t (n ∷ s ∷ l ∷ [])
 noteWith k ns t (advanced n f) = noted k ns t (n ∷ f ∷ [])
 noteWith k ns t (counts n fs) = noted k ns t (n ∷ fs)
+noteWith k ns t (copied n bs) = noted k (ns ++ (n ∷ length bs ∷ [])) (kept bs) []
 
 -- a start's numbers: the lengths of both buffers, the six capacities
 abbrev pub startArgs : ℕ → ℕ → Sizes → List ℕ

@@ -1,9 +1,9 @@
 // The record of each call with its answer, for C: how many bytes it takes; 0 and nothing changed where the slice is too short.
 ghost use mathlib.Core.List.{[], _∷_};
 ghost use Rattle.ledger.specs.Call.{Answer};
-ghost use Rattle.ledger.specs.Call.Answer.{advanced, counts, ended, made, place, plain, received, turn};
+ghost use Rattle.ledger.specs.Call.Answer.{advanced, copied, counts, ended, made, place, plain, received, turn};
 ghost use Rattle.ledger.specs.Call.Call.{op, start};
-ghost use Rattle.ledger.specs.Call.Op.{advance, after, cancel, demonitor, every, exit, link, monitor, next, notify, receive, report, show, shown, spawn, unlink, yield};
+ghost use Rattle.ledger.specs.Call.Op.{advance, after, bus, cancel, demonitor, every, exit, link, monitor, next, notify, publish, read, receive, report, show, shown, spawn, subscribe, unlink, unsubscribe, yield};
 ghost use Rattle.trace.specs.Contracts.{Put};
 ghost use Rattle.trace.specs.Kinds.{encode};
 use crate::numbers::unsigned;
@@ -201,4 +201,59 @@ pub extern "C" fn fg_trace_report(
         &[],
         &[no, actors, mailboxes, data_entries, links, monitors, timers],
     )
+}
+
+// The four settings; the number, and the bus's own.
+#[no_mangle]
+pub extern "C" fn fg_trace_bus(
+    out: &mut [u8],
+    entries: u64,
+    subscribers: u64,
+    reads: u64,
+    age: u64,
+    no: u64,
+    id: u64,
+) -> usize
+    ensures { λ r. ⌜ Put (encode 0 0 (op (bus entries subscribers reads age)) (made no id)) (now (out .entry)) r (now (out .exit)) ⌝ }
+{
+    let front = [entries, subscribers, reads, age];
+    write_numbers(out, 34, &front, &[no, id])
+}
+
+// A payload over 252 bytes by its length alone.
+#[no_mangle]
+pub extern "C" fn fg_trace_publish(out: &mut [u8], bus: u64, payload: &[u8], no: u64) -> usize
+    ensures { λ r. ⌜ Put (encode 0 0 (op (publish bus (now (payload .entry)))) (plain no)) (now (out .entry)) r (now (out .exit)) ⌝ }
+{
+    let front = [bus, payload.len() as u64];
+    if payload.len() <= PAYLOAD_MOST {
+        return write(out, 35, &front, payload, &[no]);
+    }
+    write_numbers(out, 35, &front, &[no])
+}
+
+#[no_mangle]
+pub extern "C" fn fg_trace_subscribe(out: &mut [u8], bus: u64, no: u64) -> usize
+    ensures { λ r. ⌜ Put (encode 0 0 (op (subscribe bus)) (plain no)) (now (out .entry)) r (now (out .exit)) ⌝ }
+{
+    write_numbers(out, 36, &[bus], &[no])
+}
+
+#[no_mangle]
+pub extern "C" fn fg_trace_unsubscribe(out: &mut [u8], bus: u64, no: u64) -> usize
+    ensures { λ r. ⌜ Put (encode 0 0 (op (unsubscribe bus)) (plain no)) (now (out .entry)) r (now (out .exit)) ⌝ }
+{
+    write_numbers(out, 37, &[bus], &[no])
+}
+
+// The bus and how many bytes the lent slice has; the number, and the bytes that were copied to it, as a payload is.
+#[no_mangle]
+pub extern "C" fn fg_trace_read(out: &mut [u8], bus: u64, room: u64, no: u64, copy: &[u8]) -> usize
+    ensures { λ r. ⌜ Put (encode 0 0 (op (read bus room)) (copied no (now (copy .entry)))) (now (out .entry)) r (now (out .exit)) ⌝ }
+{
+    let front = [bus, room, no, copy.len() as u64];
+    if copy.len() <= PAYLOAD_MOST {
+        return write(out, 38, &front, copy, &[]);
+    }
+    write_numbers(out, 38, &front, &[])
 }
