@@ -23,7 +23,15 @@ use tables::words::put;
 
 // ---- settings
 // The next bus, with these four.
-pub fn make_bus(t: &mut [u64], p: &[u8], k: Caps, entries: u64, subscribers: u64, reads: u64, age: u64)
+pub fn make_bus(
+    t: &mut [u64],
+    p: &[u8],
+    k: Caps,
+    entries: u64,
+    subscribers: u64,
+    reads: u64,
+    age: u64,
+)
     requires { ⌜ RoomWith k (λ s. head s BUSES ≤ SAFE) (now t) (now p) ⌝ }
     ensures { λ _. ⌜ Makes k (λ s. makeBus s entries subscribers reads age) (now (t .entry)) (now (p .entry)) (now (t .exit)) (now (p .entry)) ⌝ }
 {

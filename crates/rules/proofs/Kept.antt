@@ -10,6 +10,7 @@ pub mod Messages
 pub mod Owners
 pub mod Patch
 pub mod Ready
+pub mod Row
 pub mod Rules
 pub mod Running
 pub mod Seats

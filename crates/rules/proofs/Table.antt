@@ -33,7 +33,7 @@ use Rattle.rules.specs.Run.{numbers, said, say, step}
 use Rattle.rules.proofs.Reckoned.Clock.{advance-agrees, advance-counts, advance-keeps, advance-same}
 use Rattle.rules.proofs.Frames.Pools.{use-begins, use-ends}
 use Rattle.rules.proofs.Frames.Ages.{framed, spawn-framed}
-use Rattle.rules.proofs.Frames.Buses.{AIRED, beside-broadcast, beside-makeBus, beside-readOff, beside-sitDown, beside-standUp}
+use Rattle.rules.proofs.Frames.Buses.{AIRED, beside-broadcast, beside-readOff, wrote-makeBus, wrote-sitDown, wrote-standUp}
 use Rattle.rules.proofs.Frames.Calls.{beside-advance, beside-arm, beside-link, beside-next, beside-receive}
 use Rattle.rules.proofs.Claims.{Agreed, Counted, Framed, Keeps, Silent, Speaks, Tested}
 use Rattle.rules.proofs.Ends.Departs.{beside-depart, exit-agrees, exit-counts, exit-keeps, exit-same}
@@ -222,17 +222,17 @@ proved report =
     (framed report (λ k s. beside-still [] s) refl) (quietly report (λ r l. (refl, refl, refl, refl)))
 proved (bus n m r t) =
     row (bus n m r t) (λ k s. (refl, refl)) (λ k s l g a p. refl) (inl (λ m. refl)) (bus-keeps n m r t) (bus-agrees n m r t) (bus-same n m r t)
-    (framed (bus n m r t) (λ k s. beside-makeBus s n m r t) refl) (quietly (bus n m r t) (λ r l. (refl, refl, refl, refl)))
+    (framed (bus n m r t) (λ k s. beside-of (wrote-makeBus s n m r t)) refl) (quietly (bus n m r t) (λ r l. (refl, refl, refl, refl)))
 proved (publish b payload) =
     row (publish b payload) (λ k s. (refl, refl)) (λ k s l g a p. refl) (inl (λ m. refl)) (publish-keeps b payload) (publish-agrees b payload) (publish-same b payload)
     (framed (publish b payload) (λ k s. beside-broadcast k s b payload) refl) (quietly (publish b payload)
     (λ r l. split (busFull l b) (λ q. rw q (refl, refl, refl, refl)) (λ q. rw q (refl, refl, refl, refl))))
 proved (subscribe b) =
     row (subscribe b) (λ k s. (refl, refl)) (λ k s l g a p. refl) (inl (λ m. refl)) (subscribe-keeps b) (subscribe-agrees b) (subscribe-same b)
-    (framed (subscribe b) (λ k s. beside-sitDown s b _ (runner s)) refl) (quietly (subscribe b) (λ r l. (refl, refl, refl, refl)))
+    (framed (subscribe b) (λ k s. beside-of (wrote-sitDown s b _ (runner s))) refl) (quietly (subscribe b) (λ r l. (refl, refl, refl, refl)))
 proved (unsubscribe b) =
     row (unsubscribe b) (λ k s. (refl, refl)) (λ k s l g a p. refl) (inl (λ m. refl)) (unsubscribe-keeps b) (unsubscribe-agrees b) (unsubscribe-same b)
-    (framed (unsubscribe b) (λ k s. beside-standUp k s b _) refl) (quietly (unsubscribe b) (λ r l. (refl, refl, refl, refl)))
+    (framed (unsubscribe b) (λ k s. beside-of (wrote-standUp k s b _)) refl) (quietly (unsubscribe b) (λ r l. (refl, refl, refl, refl)))
 proved (read b room) =
     row (read b room) (λ k s. (refl, read-works b room k s)) (λ k s l g a p. refl) (inl (λ m. refl)) (read-keeps b room) (read-agrees b room) (read-same b room)
     (framed (read b room) (beside-read b room) refl) (quietly (read b room)

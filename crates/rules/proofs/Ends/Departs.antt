@@ -1,5 +1,5 @@
 -- THE THEOREMS of an actor that ends, for any live slot: the runtime stays sound, nothing of it is left, and the reckoning says the same.
-use Prim.Native.Nat.{ℕ, suc, _+_, _-_, _≤_, _<_}
+use Prim.Native.Nat.{ℕ, suc, _-_, _≤_, _<_}
 use native.Mathlib.Omega.{arith}
 use mathlib.Core.Path.{_≡_, refl, sym, ap, ap₂, subst, _∙_}
 use mathlib.Core.Bool.{true, false, cond}
@@ -25,13 +25,14 @@ use Rattle.rules.proofs.Lists.Ties
 use Rattle.rules.proofs.Reckoned.Parts.{agrees-people}
 use Rattle.rules.proofs.Claims.{Agreed, Counted, Keeps, Tested}
 use Rattle.rules.proofs.Lists.Columns.{set-zero}
+use Rattle.rules.proofs.Lists.Each.{all-within}
 use Rattle.rules.proofs.Frames.Wrote.{Beside, beside-of, beside-over}
 use Rattle.rules.specs.Good.{Ending, Good}
 use Rattle.rules.proofs.Reckoned.Ledger.{alive-slot, actor-id-eqb, id-not-zero, idle-same, runner-alive, running-is}
 use Rattle.rules.proofs.Lists.Ids.{id-free}
-use Rattle.rules.proofs.Lists.Ties.{set-cond}
+use Rattle.rules.proofs.Lists.Ties.{down, set-cond}
 use Rattle.rules.proofs.Ends.Leaving.{LEFT, OWNED, Vacated, beside-vacate, vacate-leaves, vacated-keeps, zero-else}
-use Rattle.rules.proofs.Ends.Steps.{Bared, Gone, after, all-within, bared-still, through-beside, through-keeps, through-reckoned, written}
+use Rattle.rules.proofs.Ends.Steps.{Bared, Gone, after, bared-still, through-beside, through-keeps, through-reckoned, written}
 use Rattle.rules.proofs.Ends.Laws.{laws}
 
 -- ---- once all the steps are done
@@ -77,7 +78,7 @@ module _ (k : Caps) (s u : State) (l : Ledger) (a : ℕ) (g : Good k s) (r : Agr
       let c = v .wrote .cols AGE refl in
       split (eqb (runner s) (suc a))
       (λ q. let e = eqb-true (runner s) (suc a) q in
-      let i : runId s ≡ actorId s a = rw (e, ne-eqb (suc a) 0 (λ z. omega arith)) (ap (actorId s) (less a)) in
+      let i : runId s ≡ actorId s a = rw (e, ne-eqb (suc a) 0 (λ z. omega arith)) (ap (actorId s) (down a)) in
       let z : runner u ≡ 0 = v .runs ∙ rw q in
       rw (r .people .running ∙ i, eq-eqb (actorId s a) (actorId s a) refl, z))
       (λ q. let z : runner u ≡ runner s = v .runs ∙ rw q in
@@ -87,10 +88,6 @@ module _ (k : Caps) (s u : State) (l : Ledger) (a : ℕ) (g : Good k s) (r : Agr
       (λ n. let i : l .people .running ≡ runnerId s = r .people .running ∙ rw n in
       let d : eqb (runner s - 1) a ≡ false = ne-eqb (runner s - 1) a (λ e. eqb-false (runner s) (suc a) q (omega (arith, eqb-false (runner s) 0 n))) in
       rw (n, i, actor-id-eqb k s g (runner s - 1) a (runner-alive k s g n) there ∙ d))))
-    where
-      -- one up and one down
-      less : (n : ℕ) → suc n - 1 ≡ n
-      less n = omega arith
 
   -- THE LAW of the slot: the reckoning has the actor no more
   pub vacated-agrees : Agrees k (gone (actorId s a) l) u

@@ -1,5 +1,5 @@
 -- The law of each step of an actor that ends.
-use Prim.Native.Nat.{ℕ, suc, _-_, _<_}
+use Prim.Native.Nat.{ℕ, suc, _<_}
 use native.Mathlib.Omega.{arith}
 use mathlib.Core.Path.{_≡_, refl, sym, ap, subst, _∙_}
 use mathlib.Core.Logic.{inl, inr}
@@ -18,10 +18,10 @@ use Rattle.rules.specs.Aged.{monitorPool, timerPool}
 use Rattle.rules.specs.Agrees.{Agrees}
 use Rattle.rules.specs.Calls.{clearing, disarming, dropMonitors, dropTimers, quitting, steps, told, unlinking, unseeing, unwatching}
 use Rattle.rules.proofs.Frames.Actions.{EYE-CUT, LINK-CUT, MAILED, beside-emptied}
-use Rattle.rules.proofs.Frames.Buses.{QUIT, beside-leaveBuses}
+use Rattle.rules.proofs.Frames.Buses.{QUIT, wrote-leaveBuses}
 use Rattle.rules.proofs.Frames.Calls.{beside-cutLinks, beside-cutMonitors, beside-own}
 use Rattle.rules.proofs.Reckoned.Parts.{agrees-monitors}
-use Rattle.rules.proofs.Frames.Wrote.{mem, wrote-none}
+use Rattle.rules.proofs.Frames.Wrote.{beside-of, mem, wrote-none}
 use Rattle.rules.specs.Good.{Going, Good}
 use Rattle.rules.proofs.Reckoned.Ledger.{alive-slot}
 use Rattle.rules.proofs.Lists.Ties.{below, used-inside}
@@ -235,10 +235,10 @@ quitting-law = record {
   writes = QUIT;
   spares = [];
   clears = SEAT ∷ [];
-  beside = λ k a me reason s. beside-leaveBuses k a (head s BUSES) s;
+  beside = λ k a me reason s. beside-of (wrote-leaveBuses k a (head s BUSES) s);
   keeps = λ k a reason s g there b. record {
     good = leaveBuses-keeps k a s g;
-    there = lives-on a (beside-leaveBuses k a (head s BUSES) s) refl there;
+    there = lives-on a (beside-of (wrote-leaveBuses k a (head s BUSES) s)) refl there;
     spared = tt;
     cleared = (gone-of SEAT a _ refl (leaveBuses-none k a s g), tt);
   };

@@ -30,9 +30,10 @@ use Rattle.rules.specs.Good.{Good}
 use Rattle.rules.proofs.Kept.Groups as Part
 use Rattle.rules.proofs.Kept.Patch.{_by_also_, done, patch}
 use Rattle.rules.proofs.Lists.Columns.{alive-other, each-set, listed-leaves, once-leaves, other, set-zero}
+use Rattle.rules.proofs.Lists.Each.{all-one}
 use Rattle.rules.proofs.Reckoned.Ledger.{alive-slot}
 use Rattle.rules.proofs.Lists.Ties.{set-cond}
-use Rattle.rules.proofs.Ends.Steps.{Bared, Gone, SLOTTED, all-at, of-gone, of-zero}
+use Rattle.rules.proofs.Ends.Steps.{Bared, Gone, SLOTTED, of-gone, of-zero}
 use Rattle.rules.proofs.Kept.Clauses.{arrivals-fit, buses-fit, clock-fits, queue-fits, rows-live-on, runner-fits, seat-lives, values-fit}
 
 -- ---- a column of which word a alone became 0
@@ -193,8 +194,8 @@ vacated-keeps k s u a g bare v =
     let w = v .wants in
     let zero : at u STATE a ≡ 0 = ap (λ (l : List ℕ). getD l a 0) (v .state) ∙ set-zero (s STATE) a in
     let else : (b : ℕ) → eqb b a ≡ false → at u STATE b ≡ at s STATE b = λ b q. ap (λ (l : List ℕ). getD l b 0) (v .state) ∙ other (s STATE) a 0 b q in
-    let none : (c : ℕ) → mem c OWNED ≡ true → mem c SLOTTED ≡ false → (e : ℕ) → at s c e ≡ suc a → ⊥ = λ c m n. of-gone c a (s c) n (all-at (λ c. Gone c a (s c)) OWNED bare c m) in
-    let hand : at s HAND a ≡ 0 = of-zero HAND a (s HAND) refl (all-at (λ c. Gone c a (s c)) OWNED bare HAND refl) in
+    let none : (c : ℕ) → mem c OWNED ≡ true → mem c SLOTTED ≡ false → (e : ℕ) → at s c e ≡ suc a → ⊥ = λ c m n. of-gone c a (s c) n (all-one (λ c. Gone c a (s c)) OWNED bare c m) in
+    let hand : at s HAND a ≡ 0 = of-zero HAND a (s HAND) refl (all-one (λ c. Gone c a (s c)) OWNED bare HAND refl) in
     patch k g (v .wrote) (
     Part.head by (rw (c CLOCK refl, c ARRIVED refl, c ISSUED refl, c BUSES refl) (
       (clock-fits g, split (eqb (runner s) (suc a)) (λ q. rw (v .runs, q) (omega arith)) (λ q. rw (v .runs, q) (runner-fits g))),

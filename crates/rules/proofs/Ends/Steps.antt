@@ -21,6 +21,7 @@ use Rattle.rules.specs.Calls.{Step, Told, through, told}
 use Rattle.rules.specs.Trim.{trim}
 use Rattle.rules.proofs.Frames.Wrote.{All, Beside, apart, mem, within}
 use Rattle.rules.specs.Good.{Ending, Good}
+use Rattle.rules.proofs.Lists.Each.{all-both, all-one, all-within}
 use Rattle.rules.proofs.Reckoned.Pages.{Within, within-all, within-end, within-more, within-then}
 use Rattle.rules.proofs.Frames.TrimLaws.{trimT}
 
@@ -53,23 +54,6 @@ zero-of c a l n h = record { is = λ e. rw n (split (eqb e a) (λ q. rw (q, eqb-
 pub of-zero : (c a : ℕ) (l : List ℕ) → mem c SLOTTED ≡ true → Gone c a l → getD l a 0 ≡ 0
 of-zero c a l n g =
     split (eqb (getD l a 0) 0) (eqb-true (getD l a 0) 0) (λ q. true-false true refl (rw (n, eq-eqb a a refl, q) at (g .is a)))
-
--- ---- of each of a list of columns
-module _ (P : ℕ → Type 0) where
-  -- of one of them
-  pub all-at : (cs : List ℕ) → All P cs → (c : ℕ) → mem c cs ≡ true → P c
-  all-at [] h c m = true-false false m refl
-  all-at (d ∷ cs) h c m = split (eqb c d) (λ q. rw (eqb-true c d q) (h .0)) (λ q. all-at cs (h .1) c (rw q at m))
-
-  -- of some of them
-  pub all-within : (ds cs : List ℕ) → within ds cs ≡ true → All P cs → All P ds
-  all-within [] cs e h = tt
-  all-within (d ∷ ds) cs e h = (all-at cs h d (and-left (mem d cs) (within ds cs) e), all-within ds cs (and-right (mem d cs) (within ds cs) e) h)
-
-  -- of two lists
-  all-both : (cs ds : List ℕ) → All P cs → All P ds → All P (cs ++ ds)
-  all-both [] ds h i = i
-  all-both (c ∷ cs) ds h i = (h .0, all-both cs ds (h .1) i)
 
 -- the columns that a step leaves as bare as they were: those that it does not write, and those of which it says so
 abbrev pub lasting : List ℕ → List ℕ → List ℕ → List ℕ
@@ -164,7 +148,7 @@ module _ {x : Step} {p : Part} (w : Lawful x p) (k : Caps) (a me reason : ℕ) (
   lasts (c ∷ cs) h b =
       let u = x k a me reason s .state in
       split (mem c (w .spares))
-      (λ q. rw q (all-at (λ c. Gone c a (s c) → Gone c a (u c)) (w .spares) (h .spared) c q (b .0), lasts cs h (b .1)))
+      (λ q. rw q (all-one (λ c. Gone c a (s c) → Gone c a (u c)) (w .spares) (h .spared) c q (b .0), lasts cs h (b .1)))
       (λ q. split (mem c (w .writes))
       (λ r. rw (q, r) (lasts cs h (b .1)))
       (λ r. rw (q, r) (rw (w .beside k a me reason s .cols c r) (b .0), lasts cs h (b .1))))

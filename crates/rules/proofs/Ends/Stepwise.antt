@@ -12,7 +12,8 @@ use Rattle.tables.specs.State.{State}
 use Rattle.rules.specs.Calls.{Step, Told, steps, through, told}
 use Rattle.rules.proofs.Frames.Wrote.{within}
 use Rattle.rules.proofs.Ends.Laws.{laws}
-use Rattle.rules.proofs.Ends.Steps.{Bared, Gone, Laws, _then_, all-within, done, in-first, inOrder, next, step-on}
+use Rattle.rules.proofs.Ends.Steps.{Bared, Gone, Laws, _then_, done, in-first, inOrder, next, step-on}
+use Rattle.rules.proofs.Lists.Each.{all-within}
 use Rattle.rules.specs.Good.{Ending}
 
 -- ---- of any list of steps

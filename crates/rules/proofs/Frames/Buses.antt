@@ -8,9 +8,11 @@ use Rattle.tables.specs.declared.Caps.{Caps}
 use Rattle.tables.specs.Columns.{BUS-AGE, BUS-READS, BUS-SEATS, BUS-SIZE, BUSES, DATA-FREE, ISSUE, ISSUED, LENGTH, PAYLOAD, PUBLISHED, READERS, SEAT, SENDER, VALUE-BUS}
 use Rattle.tables.specs.State.{State, at, head, poke}
 use Rattle.rules.specs.Actions.{dataFor}
-use Rattle.rules.specs.Buses.{aired, airing, broadcast, busFull, evict, forget, isStale, issue, leaveBuses, makeBus, oldestOn, readOff, readOut, retire, seatAt, seatOf, signed, sitDown, sits, standUp, valueAt}
+use Rattle.rules.specs.Buses.{aired, airing, broadcast, busFull, evict, forget, isStale, issue, leaveBuses}
+use Rattle.rules.specs.Buses.{makeBus, oldestOn, readOff, readOut, retire, seatAt, seatOf, signed, sitDown, sits, standUp, valueAt}
 use Rattle.rules.proofs.Frames.Actions.{wrote-fill, wrote-unfill}
-use Rattle.rules.proofs.Frames.Wrote.{Beside, Wrote, beside-of, beside-over, beside-poke, beside-pull, beside-still, beside-within, wrote-cond, wrote-none, wrote-over, wrote-poke, wrote-push, wrote-still, wrote-within}
+use Rattle.rules.proofs.Frames.Wrote.{Beside, Wrote, beside-of, beside-over, beside-poke, beside-pull, beside-still, beside-within}
+use Rattle.rules.proofs.Frames.Wrote.{wrote-cond, wrote-none, wrote-over, wrote-poke, wrote-push, wrote-still, wrote-within}
 
 -- ---- the columns of values: what one writes that begins or ends
 abbrev pub AIRED : List ℕ
@@ -21,7 +23,7 @@ abbrev pub QUIT : List ℕ
 QUIT = SEAT ∷ READERS ∷ []
 
 -- what a new bus writes
-abbrev pub BUILT : List ℕ
+abbrev BUILT : List ℕ
 BUILT = BUSES ∷ BUS-AGE ∷ BUS-READS ∷ BUS-SEATS ∷ BUS-SIZE ∷ []
 
 -- ---- buses
@@ -32,19 +34,11 @@ wrote-makeBus s entries subscribers reads age =
     let b = head s BUSES in
     wrote-poke (wrote-poke (wrote-poke (wrote-poke (wrote-poke (wrote-none s) BUS-SIZE b entries) BUS-SEATS b subscribers) BUS-READS b reads) BUS-AGE b age) BUSES 0 _
 
--- the columns alone
-pub beside-makeBus : (s : State) (entries subscribers reads age : ℕ) → Beside BUILT s (makeBus s entries subscribers reads age)
-beside-makeBus s entries subscribers reads age = beside-of (wrote-makeBus s entries subscribers reads age)
-
 -- ---- seats
 -- one sits down
 pub wrote-sitDown : (s : State) (b n a : ℕ) → Wrote (SEAT ∷ []) s (sitDown s b n a)
 unfolding sitDown
 wrote-sitDown s b n a = wrote-poke (wrote-none s) SEAT (seatAt b n) a
-
--- the columns alone
-pub beside-sitDown : (s : State) (b n a : ℕ) → Beside (SEAT ∷ []) s (sitDown s b n a)
-beside-sitDown s b n a = beside-of (wrote-sitDown s b n a)
 
 -- one may read nothing any more
 pub wrote-forget : (b n d : ℕ) (s : State) → Wrote (READERS ∷ []) s (forget b n d s)
@@ -60,10 +54,6 @@ pub wrote-standUp : (k : Caps) (s : State) (b n : ℕ) → Wrote QUIT s (standUp
 unfolding standUp
 wrote-standUp k s b n = wrote-poke (wrote-forget b n (k .datas) s) SEAT (seatAt b n) 0
 
--- the columns alone
-pub beside-standUp : (k : Caps) (s : State) (b n : ℕ) → Beside QUIT s (standUp k s b n)
-beside-standUp k s b n = beside-of (wrote-standUp k s b n)
-
 -- from every bus
 pub wrote-leaveBuses : (k : Caps) (a n : ℕ) (s : State) → Wrote QUIT s (leaveBuses k a n s)
 unfolding leaveBuses
@@ -71,10 +61,6 @@ wrote-leaveBuses k a zero s = wrote-still QUIT s
 wrote-leaveBuses k a (suc b) s =
     let u = leaveBuses k a b s in
     wrote-over QUIT (wrote-leaveBuses k a b s) (wrote-cond (sits u b (suc a)) (wrote-standUp k u b (seatOf u b (suc a))) (wrote-still QUIT u)) refl
-
--- the columns alone
-pub beside-leaveBuses : (k : Caps) (a n : ℕ) (s : State) → Beside QUIT s (leaveBuses k a n s)
-beside-leaveBuses k a n s = beside-of (wrote-leaveBuses k a n s)
 
 -- ---- values
 -- one begins
@@ -84,7 +70,7 @@ wrote-issue s d b payload =
     wrote-within AIRED (wrote-push (wrote-poke (wrote-poke (wrote-poke (wrote-fill (wrote-none s) d 0 0 payload) VALUE-BUS d _) READERS d _) PUBLISHED d _) ISSUE ISSUED (suc d)) refl
 
 -- one ends
-pub beside-retire : (s : State) (j : ℕ) → Beside AIRED s (retire s j)
+beside-retire : (s : State) (j : ℕ) → Beside AIRED s (retire s j)
 unfolding retire
 beside-retire s j =
     let d = valueAt s j in
@@ -111,7 +97,7 @@ beside-readOff s b n j =
     split (readOut u b d) (λ q. rw q (beside-over AIRED w (beside-retire u j) refl)) (λ q. rw q w)
 
 -- those end that have reached their age, among the first
-pub beside-airing : (i : ℕ) (s : State) → Beside AIRED s (airing i s)
+beside-airing : (i : ℕ) (s : State) → Beside AIRED s (airing i s)
 unfolding airing
 beside-airing zero s = beside-still AIRED s
 beside-airing (suc i) s =

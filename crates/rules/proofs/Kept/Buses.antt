@@ -3,22 +3,21 @@ use Prim.Native.Nat.{ℕ}
 use native.Mathlib.Omega.{arith}
 use mathlib.Core.List.{List}
 use lib.ListN.{length}
-use lib.Dec.{eqb, ltb}
-use borrow.Author.Tests.{eqb-true, eqb-false, leb-false, ltb-false, ltb-true, not-false}
+use lib.Dec.{ltb}
+use borrow.Author.Tests.{eqb-false, leb-false, ltb-false, ltb-true, not-false}
 use Rattle.pools.proofs.BoolLaws.{split}
-use Rattle.pools.proofs.PoolLaws.{lowest-at}
 use Rattle.ledger.specs.Call.Op.{bus, publish, read, subscribe, unsubscribe}
-use Rattle.tables.specs.Columns.{BUS-SEATS, BUSES, ISSUED}
+use Rattle.tables.specs.Columns.{BUSES, ISSUED}
 use Rattle.tables.specs.Limits.{MOST-BUSES, PAYLOAD-MOST}
-use Rattle.tables.specs.State.{at, head}
+use Rattle.tables.specs.State.{head}
 use Rattle.rules.specs.Terms.{runner}
-use Rattle.rules.specs.Buses.{inSeat, isBus, oldestUnread, seatFor, seatOf, sits}
+use Rattle.rules.specs.Buses.{oldestUnread, seatFor, seatOf, sits}
 use Rattle.rules.proofs.Claims.{Keeps}
 use Rattle.rules.proofs.Guards.{fourth-passed, second-passed, third-passed}
 use Rattle.rules.proofs.Reckoned.Ledger.{runner-alive}
 use Rattle.rules.proofs.Kept.Clauses.{buses-fit}
-pub use Rattle.rules.proofs.Kept.Seats.{leaveBuses-keeps, leaveBuses-none, makeBus-keeps, sitDown-keeps, sits-bus, sits-not, sits-seat, standUp-keeps}
-pub use Rattle.rules.proofs.Kept.Values.{aired-keeps, airing-keeps, broadcast-keeps, evict-keeps, issue-keeps, readOff-keeps, retire-keeps}
+use Rattle.rules.proofs.Kept.Seats.{bus-there, makeBus-keeps, seat-there, sitDown-keeps, sits-bus, sits-not, sits-seat, standUp-keeps}
+use Rattle.rules.proofs.Kept.Values.{broadcast-keeps, readOff-keeps}
 
 -- a bus is made
 pub bus-keeps : (entries subscribers reads age : ℕ) → Keeps (bus entries subscribers reads age)
@@ -28,15 +27,14 @@ bus-keeps entries subscribers reads age k s g p =
 -- a value is published
 pub publish-keeps : (b : ℕ) (payload : List ℕ) → Keeps (publish b payload)
 publish-keeps b payload k s g p =
-    broadcast-keeps k s g b payload (ltb-true b (head s BUSES) (not-false (isBus s b) (third-passed p))) (ltb-false PAYLOAD-MOST (length payload) (second-passed p)) (fourth-passed p)
+    broadcast-keeps k s g b payload (bus-there s b (third-passed p)) (ltb-false PAYLOAD-MOST (length payload) (second-passed p)) (fourth-passed p)
 
 -- one subscribes
 pub subscribe-keeps : (b : ℕ) → Keeps (subscribe b)
 subscribe-keeps b k s g p =
     let n = seatFor s b in
-    let made = ltb-true b (head s BUSES) (not-false (isBus s b) (third-passed p)) in
-    let nl = ltb-true n (at s BUS-SEATS b) (not-false (ltb n (at s BUS-SEATS b)) (fourth-passed p)) in
-    let empty = eqb-true (inSeat s b n) 0 (lowest-at (λ n. eqb (inSeat s b n) 0) (at s BUS-SEATS b) nl) in
+    let made = bus-there s b (third-passed p) in
+    let (nl, empty) = seat-there s b (fourth-passed p) in
     sitDown-keeps k s g b n (runner s) (omega (arith, buses-fit g)) nl empty (runner-alive k s g (p .0)) (sits-not s b (runner s) (second-passed p))
 
 -- one unsubscribes

@@ -15,8 +15,8 @@ use Rattle.pools.proofs.BoolLaws.{split}
 use Rattle.tables.specs.declared.Caps.{Caps}
 use Rattle.tables.specs.Columns.{ACTORS, AGE, ARRIVED, CLOCK, DATA-FREE, DATAS, DEADLINE, DUE, HAND, INTERVAL, LENGTH, LINK-ONE, LINK-TWO, LINKS, MAIL-DATA}
 use Rattle.tables.specs.Columns.{MAIL-FREE, MAIL-OWNER, MAILS, MONITOR-AGE, MONITORS, QUEUE, QUEUED, REST, STATE, TIMER-AGE, TIMER-OWNER, TIMERS, WANT-CLASS}
-use Rattle.tables.specs.Columns.{BUS-AGE, BUS-READS, BUS-SEATS, BUS-SIZE, BUSES, ISSUE, ISSUED, PUBLISHED, VALUE-BUS, WANT-SENDER, WANT-TAG, WATCHED, WATCHER}
-use Rattle.tables.specs.Limits.{CLOCK-END, DEADLINE-END, DUE-END, LONGEST, LONGEST-AGE, MOST-BUSES, MOST-READS, MOST-SEATS, MOST-VALUES, OLDEST, PAYLOAD-MOST}
+use Rattle.tables.specs.Columns.{BUS-AGE, BUS-SEATS, BUS-SIZE, BUSES, ISSUE, ISSUED, PUBLISHED, VALUE-BUS, WANT-SENDER, WANT-TAG, WATCHED, WATCHER}
+use Rattle.tables.specs.Limits.{CLOCK-END, DEADLINE-END, DUE-END, LONGEST, LONGEST-AGE, MOST-BUSES, MOST-SEATS, OLDEST, PAYLOAD-MOST}
 use Rattle.tables.specs.State.{State, at, head, size, with-col}
 use Rattle.rules.specs.Rule.{Holds}
 use Rattle.rules.specs.Sound.{endsRule, linkRule, mailRule, monitorRule, rowRule, timerRule}
@@ -169,20 +169,10 @@ module _ {k : Caps} {s : State} (g : Good k s) where
   setting-fits : (c most b : ℕ) → c < REST → size k c ≡ MOST-BUSES → ((b : ℕ) → b < MOST-BUSES → at s c b ≤ most) → at s c b ≤ most
   setting-fits c most b h e f = every-word c most h (λ i l. f i (rw e at l)) b
 
-  pub size-fits : (b : ℕ) → at s BUS-SIZE b ≤ MOST-VALUES
-  size-fits b =
-      setting-fits BUS-SIZE MOST-VALUES b (omega arith) refl (λ b l. split (ltb b (head s BUSES))
-      (λ q. g .buses b l .0 (ltb-true _ _ q) .0 .0 .1) (λ q. omega (arith, g .buses b l .1 (ltb-false _ _ q) .0 .0)))
-
   pub seats-fit : (b : ℕ) → at s BUS-SEATS b ≤ MOST-SEATS
   seats-fit b =
       setting-fits BUS-SEATS MOST-SEATS b (omega arith) refl (λ b l. split (ltb b (head s BUSES))
       (λ q. g .buses b l .0 (ltb-true _ _ q) .0 .1 .1) (λ q. omega (arith, g .buses b l .1 (ltb-false _ _ q) .0 .1)))
-
-  pub reads-fit : (b : ℕ) → at s BUS-READS b ≤ MOST-READS
-  reads-fit b =
-      setting-fits BUS-READS MOST-READS b (omega arith) refl (λ b l. split (ltb b (head s BUSES))
-      (λ q. g .buses b l .0 (ltb-true _ _ q) .1 .0) (λ q. omega (arith, g .buses b l .1 (ltb-false _ _ q) .1 .0)))
 
   pub bus-age-fits : (b : ℕ) → at s BUS-AGE b ≤ LONGEST-AGE
   bus-age-fits b =

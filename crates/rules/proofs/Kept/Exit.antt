@@ -16,12 +16,12 @@ use Rattle.records.specs.Header.{packed}
 use Rattle.records.specs.Records.{exitBytes}
 use Rattle.tables.specs.declared.Caps.{Caps}
 use Rattle.tables.specs.Columns.{AGE, HAND, LINK-ONE, LINK-TWO, MAIL-OWNER, MONITOR-AGE, STATE, WATCHED, WATCHER}
-use Rattle.tables.specs.State.{Sized, State, at, head, poke, with-col}
+use Rattle.tables.specs.State.{Sized, State, at, poke, with-col}
 use Rattle.tables.specs.Action.{push, takeBit, write}
-use Rattle.rules.specs.Terms.{actorId, alive, joins, monitorId}
+use Rattle.rules.specs.Terms.{alive, joins, monitorId}
 use Rattle.rules.specs.Sound.{pairRule, senderRule}
-use Rattle.rules.specs.Actions.{enlist, hasRoom, hears, mailFor, post, ready, unwait, wake, dataFor, fill, stir}
-use Rattle.rules.specs.Calls.{Told, cutLink, cutLinks, cutMonitor, cutMonitors, linkOf, missed, noticed, tell, tie, told, unwatch, emptied}
+use Rattle.rules.specs.Actions.{enlist, hasRoom, hears, mailFor, post, ready, unwait, dataFor, fill, stir}
+use Rattle.rules.specs.Calls.{Told, cutLink, cutLinks, cutMonitor, cutMonitors, linkOf, missed, noticed, tell, tie, told, unwatch}
 use Rattle.rules.specs.Rule.{Holds}
 use Rattle.rules.specs.Aged.{monitorPool}
 use Rattle.rules.proofs.Frames.Pools.{use-ends}
@@ -29,10 +29,9 @@ use Rattle.rules.specs.Good.{Going, Good}
 use Rattle.rules.proofs.Lists.Columns.{alive-below, set-so}
 use Rattle.rules.proofs.Lists.Ties.{below, below-no, below-none, below-yes, cond-twice, joins-beside, joins-ends, joins-none, pair-once, step, used-inside}
 use Rattle.rules.proofs.Frames.Wrote.{Wrote, wrote-none, wrote-over, wrote-still}
-use Rattle.rules.proofs.Frames.Actions.{EYE-CUT, LINK-CUT, POSTED, wrote-post, wrote-tie, beside-emptied, LINKED}
+use Rattle.rules.proofs.Frames.Actions.{EYE-CUT, LINK-CUT, POSTED, wrote-post, wrote-tie}
 use Rattle.rules.proofs.Kept.Ties.{unwatch-keeps, untie-keeps}
-use Rattle.rules.proofs.Kept.Messages.{Fine, exit-fine, joined, post-alive, post-heard, post-keeps, post-unheard, sender-fine, emptied-empties, emptied-hand, emptied-keeps}
-use Rattle.rules.proofs.Reckoned.Ledger.{alive-slot}
+use Rattle.rules.proofs.Kept.Messages.{Fine, exit-fine, joined, post-alive, post-keeps, sender-fine}
 use Rattle.rules.proofs.Kept.Clauses.{link-ends, monitor-ends}
 
 -- ---- what a message leaves

@@ -4,13 +4,11 @@ use mathlib.Core.Path.{_≡_}
 use mathlib.Core.List.{[]}
 use lib.ListN.{drop}
 use Rattle.tables.specs.declared.Caps.{Caps}
-use Rattle.tables.specs.Columns.{DATA-FREE, MAIL-FREE, PAST}
-use Rattle.tables.specs.Sizes.{COLUMN-BITS, SPARES}
+use Rattle.tables.specs.Columns.{PAST}
 use Rattle.tables.specs.State.{InRange, Sized, State}
 use Rattle.rules.specs.Rule.{Holds}
-use Rattle.rules.specs.Sound.{actorRule, arrivalRule, arrivedRule, bitsRule, capsRule, dataRule, filterRule, headRule, heldRule, unusedRule, acrossRules}
-use Rattle.rules.specs.Sound.{linkRule, mailRule, monitorRule, onceRule, pairRule, plainRules, queueRule, runRule, sizeRule, soundAt, spareRule}
-use Rattle.rules.specs.Sound.{timerRule, waitRule}
+use Rattle.rules.specs.Sound.{acrossRules}
+use Rattle.rules.specs.Sound.{plainRules, sizeRule, soundAt}
 use Rattle.rules.proofs.Kept.Groups.{Every, groups, pick, ruleAt}
 use Rattle.rules.proofs.Kept.Groups as Part
 use Rattle.rules.proofs.Kept.Sound.{of-range, range-of}

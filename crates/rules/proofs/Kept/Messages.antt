@@ -1,5 +1,5 @@
 -- The message actions keep a sound runtime sound.
-use Prim.Native.Nat.{ℕ, zero, suc, _+_, _-_, _*_, _/_, _^_, _≤_, _<_}
+use Prim.Native.Nat.{ℕ, zero, suc, _+_, _-_, _*_, _^_, _≤_, _<_}
 use native.Mathlib.Decide.{decLt}
 use native.Mathlib.Omega.{arith}
 use mathlib.Core.Path.{_≡_, refl, sym, ap, subst, _∙_, fun-ext}
@@ -14,7 +14,7 @@ use borrow.Author.Tests.{eqb-true, eqb-false, eq-eqb, leb-false, leb-true, ltb-t
 use Rattle.pools.specs.Pool.{occurs}
 use Rattle.pools.specs.Slot.{slotOf}
 use Rattle.pools.proofs.SlotLaws.{age-of-id, id-pos, of-live, slot-of-id}
-use Rattle.pools.specs.Bits.{free, taken, released, WORD-BITS}
+use Rattle.pools.specs.Bits.{free, taken, released}
 use Rattle.pools.proofs.BoolLaws.{split, true-false, and-left, and-right, flag-pos, neither}
 use Rattle.pools.proofs.PoolLaws.{lowest-at, lowest-first}
 use Rattle.pools.proofs.ListLaws.{occurs-length, occurs-place, occurs-pos}
@@ -29,19 +29,19 @@ use Rattle.ledger.specs.Call.Op.{notify, receive}
 use Rattle.tables.specs.declared.Caps.{Caps}
 use Rattle.tables.specs.Columns.{AGE, ARRIVAL, ARRIVED, CLOCK, DATA-FREE, DEADLINE, HAND, LENGTH, MAIL-DATA, MAIL-FREE, MAIL-OWNER, PAYLOAD, QUEUE, QUEUED, REASON, RUNNING, SENDER, STATE, VALUE-BUS, WANT-CLASS, WANT-SENDER, WANT-TAG}
 use Rattle.tables.specs.Sizes.{COLUMN-BITS}
-use Rattle.tables.specs.Limits.{ACTOR-FACTOR, ANY-CLASS, ANY-SENDER, ANY-TAG, CLOCK-END, DEADLINE-END, ENTRY-BYTES, LONGEST-WAIT, MOST-DATAS, PAYLOAD-MOST}
+use Rattle.tables.specs.Limits.{ACTOR-FACTOR, ANY-CLASS, ANY-SENDER, ANY-TAG, CLOCK-END, DEADLINE-END, ENTRY-BYTES, LONGEST-WAIT, PAYLOAD-MOST}
 use Rattle.tables.specs.State.{Sized, State, at, head, poke, with-col}
 use Rattle.tables.specs.Action.{push, pull, takeBit, freeBit, write, blank}
 use Rattle.tables.proofs.LoopLaws.{sets-apart, sets-same}
 use Rattle.tables.proofs.ActionLaws.{poke-same, write-append}
 use Rattle.rules.specs.Rule.{Holds}
 use Rattle.rules.specs.Terms.{MESSAGE, RUNNABLE, RUNS, WAITS, actorId, alive, fits, isActor, legal, runner, runnerId}
-use Rattle.rules.specs.Sound.{actorRule, arrivalRule, arrivedRule, bitsRule, dataRule, filterRule, headRule, headerRule, unusedRule, lengthRule, mailRule, onceRule, pairRule, senderRule, waitRule, zeros}
+use Rattle.rules.specs.Sound.{actorRule, arrivalRule, arrivedRule, bitsRule, filterRule, headRule, headerRule, unusedRule, lengthRule, mailRule, onceRule, pairRule, senderRule, waitRule, zeros}
 use Rattle.rules.specs.Actions.{dataFor, delist, enlist, fill, hasRoom, hears, letGo, mailFor, post, ready, stir, unfill, unwait, wake}
 use Rattle.rules.specs.Calls.{await, badWait, dataOf, deadlineAt, dropAll, dropFirst, emptied, firstMatch, firstOf, handOver, matchAt, notAtAll, receiveBare}
 use Rattle.rules.specs.Agrees.{arrivals}
 use Rattle.rules.proofs.Claims.{Keeps}
-use Rattle.rules.proofs.Frames.Wrote.{Wrote, wrote-free, wrote-none, wrote-poke, wrote-pull, wrote-sized, wrote-take, wrote-with}
+use Rattle.rules.proofs.Frames.Wrote.{Wrote, wrote-free, wrote-none, wrote-poke, wrote-pull, wrote-take, wrote-with}
 use Rattle.rules.proofs.Frames.Actions.{beside-dropAll, wrote-await, wrote-enlist, wrote-letGo}
 use Rattle.rules.specs.Good.{Good}
 use Rattle.rules.proofs.Kept.Clauses.{read-back, read-down, runner-fits, queue-fits, clock-fits, arrivals-fit}
@@ -50,7 +50,7 @@ use Rattle.rules.proofs.Kept.Patch.{_by_also_, done, patch, patch-livin
 use Rattle.rules.proofs.Lists.Columns.{alive-begins, alive-below, alive-of, alive-same, each-set, listed-joins, listed-leaves, once-joins, of-alive, once-leaves, other, set-so, set-zero}
 use Rattle.rules.proofs.Reckoned.Ledger.{alive-age, alive-slot, runner-alive, runs-alive, runs-at}
 use Rattle.rules.proofs.Kept.Running.{wake-keeps}
-use Rattle.rules.proofs.Lists.Messages.{DataAt, Wiped, Written, bits-free, bits-take, data-same, header-same, written}
+use Rattle.rules.proofs.Lists.Messages.{Wiped, Written, bits-free, bits-take, bytesAt, datas-free, datas-take, header-same, written}
 use Rattle.rules.proofs.Kept.Owners.{arrivals-long, arrivals-room, column-arrived, free-no-value, occurs-column, occurs-set, owner-below, owner-else, owner-free, owner-fresh, owner-pass, owner-take, owned}
 use Rattle.rules.proofs.Guards.{second-passed, third-passed, fourth-passed}
 
@@ -86,27 +86,13 @@ wipe-is k s d z l =
       apart = λ e q. sets-apart (s PAYLOAD) (ENTRY-BYTES * e) ENTRY-BYTES (ENTRY-BYTES * d + 0) m (λ j n b o r. eqb-false e d q (omega arith));
     }
 
-module _ (k : Caps) (s : State) (d : ℕ) (q : List ℕ) (w : Wiped (s PAYLOAD) q d) (z : Sized k s) (l : d < k .datas) where
-  -- the data entries are sound
-  pub unfilled-datas : k .datas ≤ MOST-DATAS → ((e : ℕ) → e < k .datas → Holds (dataRule s e)) → (e : ℕ) → e < k .datas → Holds (dataRule (unfilled s d q) e)
-  unfolding poke with-col freeBit
-  unfilled-datas few h e m =
-      let b : d / WORD-BITS < length (s DATA-FREE) = omega (arith, z .words DATA-FREE (lit< tt)) in
-      let f = released-same (s DATA-FREE) d b in
-      each-set (DataAt (released (s DATA-FREE) d) (set (s SENDER) d 0) (set (s LENGTH) d 0) (s VALUE-BUS) q (s AGE)) d e (
-        λ u. (
-          (
-            getD-set-same (s SENDER) d 0 0 (omega (arith, z .words SENDER (lit< tt))),
-            getD-set-same (s LENGTH) d 0 0
-                (omega (arith, z .words LENGTH (lit< tt))),
-          ),
-          w .blank,
-        ),
-        λ u. true-false (free (released (s DATA-FREE) d) d) f
-            (not-true (free (released (s DATA-FREE) d) d) u),
-      )
-      (λ r. data-same (s DATA-FREE) (released (s DATA-FREE) d) (s SENDER) (set (s SENDER) d 0) (s LENGTH) (set (s LENGTH) d 0) (s VALUE-BUS) (s VALUE-BUS) (s PAYLOAD) q (s AGE) e
-      (released-other (s DATA-FREE) d e (eqb-false e d r)) (other (s SENDER) d 0 e r) (other (s LENGTH) d 0 e r) refl (w .apart e r) (h e m))
+-- a data entry is written that no mailbox names: each mailbox still holds nothing that its filter matches
+pub filters-else : (k : Caps) (s : State) → Good k s → (d v : ℕ) (q : List ℕ) → ((e : ℕ) → eqb e d ≡ false → bytesAt q e ≡ bytesAt (s PAYLOAD) e) →
+    ((f : ℕ) → 1 ≤ at s MAIL-DATA f → eqb (at s MAIL-DATA f - 1) d ≡ false) → (f : ℕ) → f < k .mails → Holds (filterRule (with-col (poke s SENDER d v) PAYLOAD q) f)
+unfolding poke with-col
+filters-else k s g d v q apart none f m u =
+    let r = none f (g .mails f m .1 (u .0) .1 .0) in
+    rw (other (s SENDER) d v (at s MAIL-DATA f - 1) r, header-same (s PAYLOAD) q (at s MAIL-DATA f - 1) (apart (at s MAIL-DATA f - 1) r)) (g .filters f m u)
 
 -- ---- the hand lets go
 module _ (k : Caps) (s : State) (g : Good k s) (a : ℕ) (l : a < k .actors) (d : ℕ) (h : at s HAND a ≡ suc d) (q : List ℕ) (w : Wiped (s PAYLOAD) q d) where
@@ -118,10 +104,9 @@ module _ (k : Caps) (s : State) (g : Good k s) (a : ℕ) (l : a < k .actors) (d 
       Part.dataBits by (bits-free (k .datas) (s DATA-FREE) d (owner-below (owned k s g) HAND a refl d h) (g .dataBits)) also
       Part.actors by (λ b m. (g .actors b m .0, (g .actors b m .1 .0, set-so (λ x. x ≤ k .datas) (s HAND) a 0 b (omega arith) (g .actors b m .1 .1)))) also
       Part.unusedWords by (λ b m. (λ u. (g .unusedWords b m .0 u .0, set-so (λ x. x ≡ 0) (s HAND) a 0 b refl (g .unusedWords b m .0 u .1)), g .unusedWords b m .1)) also
-      Part.filters by (λ e m u.
-      let r = owner-else (owned k s g) HAND a refl d h MAIL-DATA e refl (g .mails e m .1 (u .0) .1 .0) refl in
-      rw (other (s SENDER) d 0 (at s MAIL-DATA e - 1) r, header-same (s PAYLOAD) q (at s MAIL-DATA e - 1) (w .apart (at s MAIL-DATA e - 1) r)) (g .filters e m u)) also
-      Part.datas by (unfilled-datas k s d q w (g .sized) (owner-below (owned k s g) HAND a refl d h) (g .range .fewDatas) (g .datas)) also
+      Part.filters by (filters-else k s g d 0 q (w .apart) (λ f n. owner-else (owned k s g) HAND a refl d h MAIL-DATA f refl n refl)) also
+      Part.datas by (λ e m. datas-free (s DATA-FREE) (s SENDER) (s LENGTH) (s VALUE-BUS) (s VALUE-BUS) (s PAYLOAD) q (s AGE) d (λ f r. refl)
+      (owned k s g .bits d (owner-below (owned k s g) HAND a refl d h)) w e (g .datas e m)) also
       Part.held by (owner-free (owned k s g) HAND a refl d h) also
       done) refl
 
@@ -197,11 +182,10 @@ module _ (k : Caps) (s : State) (g : Good k s) (a : ℕ) (there : alive (s STATE
         (λ u. let c = owner-fresh (owned k s g) MAIL-DATA f refl (g .mails f m .1 (u .0) .1 .0) d df in
         rw (other (s SENDER) d sender (at s MAIL-DATA f - 1) c, header-same (s PAYLOAD) q (at s MAIL-DATA f - 1) (w .apart (at s MAIL-DATA f - 1) c)) (g .filters f m u)))
         m) also
-        Part.datas by (λ f m. each-set (DataAt (taken (s DATA-FREE) d) (set (s SENDER) d sender) (set (s LENGTH) d (length payload)) (s VALUE-BUS) q (s AGE)) d f
+        Part.datas by (λ f m. datas-take (s DATA-FREE) (s SENDER) (s LENGTH) (s VALUE-BUS) (s VALUE-BUS) (s PAYLOAD) q (s AGE) d (λ e r. refl) sender (length payload) (w .apart)
         (rw (taken-same (s DATA-FREE) d (free-inside (s DATA-FREE) d df), sender-is, read-back g LENGTH d (length payload) tt below, w .header, free-no-value k s g d below df)
         (λ u. true-false false u refl, λ u. (λ z. ((fine .headed, fine .lengthy), (fine .sent, w .past)), λ z. absurd (z refl))))
-        (λ r. data-same (s DATA-FREE) (taken (s DATA-FREE) d) (s SENDER) (set (s SENDER) d sender) (s LENGTH) (set (s LENGTH) d (length payload)) (s VALUE-BUS) (s VALUE-BUS) (s PAYLOAD) q (s AGE) f
-        (taken-other (s DATA-FREE) d f (eqb-false f d r)) (other (s SENDER) d sender f r) (other (s LENGTH) d (length payload) f r) refl (w .apart f r) (g .datas f m))) also
+        f (g .datas f m)) also
         Part.held by (owner-take (owned k s g) MAIL-DATA e refl (omega (arith, g .sized .words MAIL-DATA (lit< tt))) (g .mails e under .0 mf .1) d df) also
         done) refl
 
@@ -408,7 +392,8 @@ module _ (k : Caps) (s : State) (g : Good k s) (j : ℕ) (jl : j < at s ARRIVED 
           header-same (s PAYLOAD) q (at s MAIL-DATA f - 1) (w .apart (at s MAIL-DATA f - 1) c),
         )
         (g .filters f m (r .1, rw (other (s MAIL-OWNER) (mailOf s j) 0 f (r .0)) at (u .1)))) also
-        Part.datas by (unfilled-datas k (delist s j) (dataOf s j) q w (wrote-sized k delist-wrote (g .sized)) dataOf-below (g .range .fewDatas) (g .datas)) also
+        Part.datas by (λ e m. datas-free (s DATA-FREE) (s SENDER) (s LENGTH) (s VALUE-BUS) (s VALUE-BUS) (s PAYLOAD) q (s AGE) (dataOf s j) (λ f r. refl)
+        (owned k s g .bits (dataOf s j) dataOf-below) w e (g .datas e m)) also
         Part.held by (owner-free (owned k s g) MAIL-DATA (mailOf s j) refl (dataOf s j) dataOf-is) also
         done) refl
 

@@ -10,13 +10,13 @@ use mir.Val.{boolByte}
 use lib.ListN.{length, getD, set, length-append, length-map, List·getD-eq-default}
 use lib.Seq.{length-take-le, take-length}
 use lib.Dec.{eqb, ltb, lit<}
-use borrow.Author.Tests.{eqb-true, eqb-false, eq-eqb, le-ltb, lt-ltb, ne-eqb, ltb-false, ltb-true, not-true}
+use borrow.Author.Tests.{eqb-true, eqb-false, eq-eqb, ne-eqb, ltb-false, ltb-true, not-true}
 use Rattle.ledger.specs.Lists.{total}
 use Rattle.pools.specs.Pool.{Exact, occurs}
 use Rattle.pools.specs.Bits.{WORD-BITS, free, released, taken}
 use Rattle.pools.specs.Lists.{keep}
 use Rattle.pools.specs.Slot.{unused}
-use Rattle.pools.proofs.BoolLaws.{split, flag≤, neither, same-bool, true-false}
+use Rattle.pools.proofs.BoolLaws.{split, flag≤, neither, true-false}
 use Rattle.pools.proofs.PoolLaws.{count-same}
 use Rattle.pools.proofs.ListLaws.{occurs-append, occurs-count, occurs-place}
 use Rattle.pools.proofs.ExactLaws.{exact-keep, exact-length, exact-same, exact-used}
@@ -29,10 +29,12 @@ use Rattle.rules.specs.Rule.{Holds}
 use Rattle.rules.specs.Sound.{OWNERS, held, plainRules, soundAt}
 use Rattle.rules.specs.Agrees.{arrivals, named, owners, upTo, usedData, usedMail}
 use Rattle.rules.proofs.Lists.Columns.{alive-below, alive-of, each-set, listed-exact, listed-room, other}
+use Rattle.rules.proofs.Lists.Ties.{one-up}
 use Rattle.rules.proofs.Frames.Wrote.{All, mem, wrote-none, wrote-poke}
 use Rattle.rules.proofs.Kept.Good.{of-good}
 use Rattle.rules.specs.Good.{Good}
 use Rattle.rules.proofs.Kept.Clauses.{arrivals-fit, issue-some}
+use Rattle.rules.proofs.Lists.Values.{occurs-map, upTo-exact}
 
 -- ---- how often a number stands
 -- how often a number stands in a column once a word is written
@@ -41,12 +43,6 @@ unfolding occurs
 occurs-set x [] i v h = absurd (omega arith)
 occurs-set x (y ∷ l) zero v h = omega arith
 occurs-set x (y ∷ l) (suc i) v h = omega (arith, occurs-set x l i v (le-of-suc-le-suc h))
-
--- how often d stands among the words of a list of entries
-occurs-map : (d : ℕ) (f : ℕ → ℕ) (es : List ℕ) → occurs d (map f es) ≡ length (keep (λ e. eqb (f e) d) es)
-unfolding occurs keep
-occurs-map d f [] = refl
-occurs-map d f (e ∷ es) = split (eqb (f e) d) (λ q. rw (q, occurs-map d f es) (omega arith)) (λ q. rw (q, occurs-map d f es) (omega arith))
 
 -- the entries in use of a column name a number as often as it stands there, one up
 pub occurs-column : (d : ℕ) (col es : List ℕ) → Exact es (λ e. not (unused col e)) → occurs d (map (λ e. getD col e 0 - 1) es) ≡ occurs (suc d) col
@@ -63,32 +59,11 @@ occurs-column d col es x =
     flags : (w : ℕ) → not (eqb w 0) && eqb (w - 1) d ≡ eqb w (suc d)
     flags w =
         split (eqb w 0) (λ q. let e = eqb-true w 0 q in rw (q, ne-eqb w (suc d) (λ r. omega arith)))
-        (λ q. let n = eqb-false w 0 q in rw q (same-bool (eqb (w - 1) d) (eqb w (suc d))
-        (λ r. let e = eqb-true (w - 1) d r in eq-eqb w (suc d) (omega arith)) (λ r. let e = eqb-true w (suc d) r in eq-eqb (w - 1) d (omega arith))))
+        (λ q. rw q (one-up w d (eqb-false w 0 q)))
 
 -- an entry in use holds a number
 pub owner-some : (col es : List ℕ) → Exact es (λ e. not (unused col e)) → (e : ℕ) → 0 < occurs e es → 1 ≤ getD col e 0
 owner-some col es x e o = let n = eqb-false (getD col e 0) 0 (not-true (unused col e) (exact-used (λ e. not (unused col e)) es e x o)) in omega arith
-
--- ---- the first numbers
--- each is there once
-pub upTo-exact : (n : ℕ) → Exact (upTo n) (λ i. ltb i n)
-unfolding upTo occurs
-upTo-exact zero i = rw (le-ltb i 0 (omega arith))
-upTo-exact (suc n) i =
-    occurs-append i (upTo n) (n ∷ [])
-    ∙ rw (upTo-exact n i)
-    (split (eqb n i)
-    (λ q. let e = eqb-true n i q in rw (q, le-ltb i n (omega arith), lt-ltb i (suc n) (omega arith)))
-    (λ q. let e = eqb-false n i q in rw q (split (ltb i n)
-    (λ p. let h = ltb-true i n p in rw (p, lt-ltb i (suc n) (omega arith)))
-    (λ p. let h = ltb-false i n p in rw (p, le-ltb i (suc n) (omega (arith, e)))))))
-
--- there are n
-pub upTo-length : (n : ℕ) → length (upTo n) ≡ n
-unfolding upTo
-upTo-length zero = refl
-upTo-length (suc n) = length-append (upTo n) (n ∷ []) ∙ omega (arith, upTo-length n)
 
 -- ---- lists of owners
 -- c is one of the columns, and stands there once
@@ -120,8 +95,8 @@ held-poke (b ∷ cs) s c e v d o l =
     (λ q. rw (poke-other s c e v b (ne-eqb b c (λ z. eqb-false c b q (sym z)))) (omega (arith, held-poke cs s c e v d (rw q at o) l)))
 
 -- 0 is no number one up
-none : (d : ℕ) → boolByte (eqb 0 (suc d)) ≡ 0
-none d = rw (ne-eqb 0 (suc d) (λ e. omega arith))
+pub zero-no-up : (d : ℕ) → boolByte (eqb 0 (suc d)) ≡ 0
+zero-no-up d = rw (ne-eqb 0 (suc d) (λ e. omega arith))
 
 -- numbers one up are the same where the numbers are
 up : (d x : ℕ) → boolByte (eqb (suc d) (suc x)) ≡ boolByte (eqb x d)
@@ -129,11 +104,11 @@ up d x = split (eqb x d) (λ q. rw (q, eqb-true x d q, eq-eqb (suc d) (suc d) re
 
 -- a word that named d names none: d is named once less
 held-clear : (cs : List ℕ) (s : State) (c e d x : ℕ) → sole c cs ≡ true → e < length (s c) → at s c e ≡ suc d → held cs (poke s c e 0) x + boolByte (eqb x d) ≡ held cs s x
-held-clear cs s c e d x o l q = let p = rw (q, up d x) at (held-poke cs s c e 0 x o l) in omega (arith, p, none x)
+held-clear cs s c e d x o l q = let p = rw (q, up d x) at (held-poke cs s c e 0 x o l) in omega (arith, p, zero-no-up x)
 
 -- a word that named none names d: it is named once more
 held-fill : (cs : List ℕ) (s : State) (c e d x : ℕ) → sole c cs ≡ true → e < length (s c) → at s c e ≡ 0 → held cs (poke s c e (suc d)) x ≡ held cs s x + boolByte (eqb x d)
-held-fill cs s c e d x o l q = let p = rw (q, up d x) at (held-poke cs s c e (suc d) x o l) in omega (arith, p, none x)
+held-fill cs s c e d x o l q = let p = rw (q, up d x) at (held-poke cs s c e (suc d) x o l) in omega (arith, p, zero-no-up x)
 
 -- every other word is as it was
 pub poke-else : (s : State) (c e v b f : ℕ) → eqb b c && eqb f e ≡ false → at (poke s c e v) b f ≡ at s b f
@@ -287,6 +262,12 @@ module _ (k : Caps) (s : State) (g : Good k s) where
   pub datas-arrived : Exact (arrivals s) (λ e. not (unused (s MAIL-DATA) e))
   datas-arrived = column-arrived (s MAIL-DATA) (g .sized .words MAIL-DATA (lit< tt)) (λ e l q. g .mails e l .0 q .1) (λ e l q. g .mails e l .1 q .1 .0)
 
+  -- past the values the words of their row are 0
+  pub unissued : (i : ℕ) → at s ISSUED 0 ≤ i → at s ISSUE i ≡ 0
+  unissued i h =
+      split (ltb i (k .datas)) (λ q. g .issues i (ltb-true _ _ q) .1 h)
+      (λ q. List·getD-eq-default (s ISSUE) 0 {n = i} (omega (arith, ltb-false i (k .datas) q, g .sized .words ISSUE (lit< tt))))
+
   -- the words of the row of values that count are an owner's entries in use
   pub values-exact : Exact (upTo (at s ISSUED 0)) (λ i. not (unused (s ISSUE) i))
   values-exact i =
@@ -294,29 +275,16 @@ module _ (k : Caps) (s : State) (g : Good k s) where
       ∙ split (ltb i (at s ISSUED 0))
       (λ q. rw (q, ne-eqb (at s ISSUE i) 0 (λ z. omega (arith, issue-some g i (ltb-true i (at s ISSUED 0) q)))))
       (λ q. rw (q, unissued i (ltb-false i (at s ISSUED 0) q)))
-    where
-      -- past the count a word is 0
-      unissued : (i : ℕ) → at s ISSUED 0 ≤ i → at s ISSUE i ≡ 0
-      unissued i h =
-          split (ltb i (k .datas)) (λ q. g .issues i (ltb-true _ _ q) .1 h)
-          (λ q. List·getD-eq-default (s ISSUE) 0 {n = i} (omega (arith, ltb-false i (k .datas) q, g .sized .words ISSUE (lit< tt))))
 
   -- THE LAW: the data entries in use are those that the owners name, each once; every owner has its entries in use
   pub all-datas : (palms : List ℕ) → Exact palms (λ a. not (unused (s HAND) a)) → Exact (named s (owners s palms)) (usedData k s)
   all-datas palms x = datas-exact (owned k s g) (owners s palms) refl (datas-arrived, (x, (values-exact, tt)))
 
-  -- a value is in the row
-  pub value-issued : (d : ℕ) → d < k .datas → (at s VALUE-BUS d ≡ 0 → ⊥) → (i : ℕ) × (at s ISSUE i ≡ suc d)
+  -- a value is in the row of values
+  value-issued : (d : ℕ) → d < k .datas → (at s VALUE-BUS d ≡ 0 → ⊥) → (i : ℕ) × (at s ISSUE i ≡ suc d)
   value-issued d l n = let p = occurs-place (suc d) (s ISSUE) (rw (g .issued d l, ne-eqb (at s VALUE-BUS d) 0 n) (omega arith)) in (p .0, p .2)
 
-  -- THE LAW: what the mailboxes and the hands name is no value, but a message
-  pub message-no-value : (c e d : ℕ) → sole c OWNERS ≡ true → eqb ISSUE c ≡ false → at s c e ≡ suc d → at s VALUE-BUS d ≡ 0
-  message-no-value c e d o n h =
-      split (eqb (at s VALUE-BUS d) 0) (λ q. eqb-true _ _ q)
-      (λ q. let (i, r) = value-issued d (owner-below (owned k s g) c e o d h) (eqb-false _ _ q) in
-      absurd (eqb-false (at s ISSUE i - 1) d (owner-else (owned k s g) c e o d h ISSUE i refl (omega (arith, r)) (rw n)) (omega (arith, r))))
-
-  -- THE LAW: a data entry that is free is none
+  -- THE LAW: a data entry that is free has none
   pub free-no-value : (d : ℕ) → d < k .datas → free (s DATA-FREE) d ≡ true → at s VALUE-BUS d ≡ 0
   free-no-value d l f =
       split (eqb (at s VALUE-BUS d) 0) (λ q. eqb-true _ _ q)

@@ -3,12 +3,12 @@ use Prim.Native.Nat.{ℕ, zero, suc, _+_, _-_, _/_, _%_, _≤_, _<_}
 use native.Mathlib.Decide.{decLt}
 use native.Mathlib.Omega.{arith}
 use mathlib.Core.Path.{_≡_, refl, sym, ap, _∙_, fun-ext}
-use mathlib.Core.Bool.{true, false, cond, _&&_, _||_}
+use mathlib.Core.Bool.{true, false, cond, not, _&&_, _||_}
 use mathlib.Core.List.{List, [], _∷_}
 use lib.ListN.{length, getD, set, List·getD-eq-default}
 use lib.Seq.{getD-set-same, set-out}
 use lib.Dec.{eqb, ltb, lit<}
-use borrow.Author.Tests.{eqb-true, eqb-false, eq-eqb, le-ltb, lt-ltb, ltb-true, ltb-false, ne-eqb}
+use borrow.Author.Tests.{eqb-true, eqb-false, eq-eqb, le-ltb, lt-ltb, ltb-true, ltb-false, ne-eqb, not-false}
 use Rattle.pools.specs.Pool.{occurs}
 use Rattle.pools.specs.Bits.{cleared}
 use Rattle.pools.proofs.BoolLaws.{neither, split, true-false}
@@ -22,7 +22,7 @@ use Rattle.tables.proofs.ActionLaws.{poke-same}
 use Rattle.rules.specs.Rule.{Holds}
 use Rattle.rules.specs.Terms.{alive}
 use Rattle.rules.specs.Sound.{busRule, maskRule, noBusRule, pairRule, rowRule}
-use Rattle.rules.specs.Buses.{badBus, forget, inSeat, leaveBuses, makeBus, seatAt, seatOf, sitDown, sits, standUp}
+use Rattle.rules.specs.Buses.{badBus, forget, inSeat, isBus, leaveBuses, makeBus, seatAt, seatFor, seatOf, sitDown, sits, standUp}
 use Rattle.rules.specs.Good.{Good}
 use Rattle.rules.proofs.Frames.Buses.{QUIT, wrote-forget, wrote-leaveBuses, wrote-makeBus, wrote-sitDown, wrote-standUp}
 use Rattle.rules.proofs.Frames.Wrote.{Wrote}
@@ -65,26 +65,26 @@ forget-at b n (suc d) s e =
 
 -- ---- seats
 -- two seats are two words
-pub seats-differ : (b n c m : ℕ) → n < MOST-SEATS → m < MOST-SEATS → (c ≡ b → m ≡ n → ⊥) → eqb (seatAt c m) (seatAt b n) ≡ false
+seats-differ : (b n c m : ℕ) → n < MOST-SEATS → m < MOST-SEATS → (c ≡ b → m ≡ n → ⊥) → eqb (seatAt c m) (seatAt b n) ≡ false
 seats-differ b n c m h l d = ne-eqb (seatAt c m) (seatAt b n) (λ e. d (omega arith) (omega arith))
 
 -- what an action leaves that writes one column
-pub one-column : (c : ℕ) (s t : State) → Wrote (c ∷ []) s t → t ≡ with-col s c (t c)
+one-column : (c : ℕ) (s t : State) → Wrote (c ∷ []) s t → t ≡ with-col s c (t c)
 unfolding with-col
 one-column c s t w = fun-ext (λ e. split (eqb e c) (λ q. rw (q, eqb-true e c q)) (λ q. rw q (w .cols e (rw q))))
 
 -- the state with seat n of bus b given up, where r says who reads
-abbrev pub stood : State → ℕ → ℕ → List ℕ → State
-stood s b n r = poke (with-col s READERS r) SEAT (seatAt b n) 0
+abbrev stoodUp : State → ℕ → ℕ → List ℕ → State
+stoodUp s b n r = poke (with-col s READERS r) SEAT (seatAt b n) 0
 
 -- which is what one leaves who stands up
-pub standUp-is : (k : Caps) (s : State) (b n : ℕ) → standUp k s b n ≡ stood s b n (forget b n (k .datas) s READERS)
+standUp-is : (k : Caps) (s : State) (b n : ℕ) → standUp k s b n ≡ stoodUp s b n (forget b n (k .datas) s READERS)
 unfolding standUp
 standUp-is k s b n = ap (λ (u : State). poke u SEAT (seatAt b n) 0) (one-column READERS s (forget b n (k .datas) s) (wrote-forget b n (k .datas) s))
 
 module _ (k : Caps) (s : State) (g : Good k s) (b n : ℕ) (bl : b < MOST-BUSES) (nl : n < MOST-SEATS) where
   -- the rows are sound
-  stood-rows : (r : List ℕ) (c : ℕ) → c < MOST-BUSES → Holds (rowRule (stood s b n r) c)
+  stood-rows : (r : List ℕ) (c : ℕ) → c < MOST-BUSES → Holds (rowRule (stoodUp s b n r) c)
   unfolding poke with-col
   stood-rows r c l m lm h =
       let q : eqb (seatAt c m) (seatAt b n) ≡ false = ne-eqb _ _ (λ e. h (ap (λ (i : ℕ). getD (set (s SEAT) (seatAt b n) 0) i 0) e ∙ set-zero (s SEAT) (seatAt b n))) in
@@ -101,7 +101,7 @@ module _ (k : Caps) (s : State) (g : Good k s) (b n : ℕ) (bl : b < MOST-BUSES)
   -- who may still read a value sits on its bus, and has not read it
   stood-mask : (r : List ℕ) (e : ℕ) → e < k .datas → (at s VALUE-BUS e ≡ 0 → ⊥) →
       getD r e 0 ≡ cond (eqb (at s VALUE-BUS e) (suc b)) (cleared (at s READERS e) (MOST-SEATS + n)) (at s READERS e) →
-      (m : ℕ) → m < MOST-SEATS → Holds (maskRule (stood s b n r) e m)
+      (m : ℕ) → m < MOST-SEATS → Holds (maskRule (stoodUp s b n r) e m)
   unfolding poke with-col
   stood-mask r e l v f m lm =
       let old = g .values e l .1 v .1 m lm in
@@ -122,7 +122,7 @@ module _ (k : Caps) (s : State) (g : Good k s) (b n : ℕ) (bl : b < MOST-BUSES)
   unfolding poke with-col pairRule
   standUp-keeps =
       let r = forget b n (k .datas) s READERS in
-      let w : Wrote QUIT s (stood s b n r) = rw (standUp-is k s b n) at (wrote-standUp k s b n) in
+      let w : Wrote QUIT s (stoodUp s b n r) = rw (standUp-is k s b n) at (wrote-standUp k s b n) in
       rw (standUp-is k s b n) (patch k g w (
       Part.rows by (stood-rows r) also
       Part.values by (λ e l.
@@ -155,6 +155,28 @@ pub sits-not : (s : State) (b a : ℕ) → sits s b a ≡ false → (m : ℕ) �
 sits-not s b a q m l e =
     true-false (eqb (inSeat s b m) a) (eq-eqb (inSeat s b m) a e) (lowest-first (λ n. eqb (inSeat s b n) a) MOST-SEATS m (omega (arith, ltb-false (seatOf s b a) MOST-SEATS q)))
 
+-- ---- what a test that does not refuse says
+-- the bus is made
+pub bus-there : (s : State) (b : ℕ) → not (isBus s b) ≡ false → b < head s BUSES
+bus-there s b q = ltb-true b (head s BUSES) (not-false (isBus s b) q)
+
+-- the seat for one who subscribes is one of the bus's, and empty
+pub seat-there : (s : State) (b : ℕ) → not (ltb (seatFor s b) (at s BUS-SEATS b)) ≡ false → (seatFor s b < at s BUS-SEATS b) × (inSeat s b (seatFor s b) ≡ 0)
+seat-there s b q =
+    let n = seatFor s b in
+    let l = ltb-true n (at s BUS-SEATS b) (not-false (ltb n (at s BUS-SEATS b)) q) in
+    (l, eqb-true (inSeat s b n) 0 (lowest-at (λ n. eqb (inSeat s b n) 0) (at s BUS-SEATS b) l))
+
+-- ---- a seat in use, among the seats of all buses: its bus is made
+pub seat-made : (k : Caps) (s : State) → Good k s → (i : ℕ) → (at s SEAT i ≡ 0 → ⊥) → i / MOST-SEATS < head s BUSES
+seat-made k s g i u =
+    let b = i / MOST-SEATS in
+    let n = i % MOST-SEATS in
+    let l : b < MOST-BUSES = omega (arith, used-inside (s SEAT) i u, g .sized .words SEAT (lit< tt)) in
+    let i-is : i ≡ seatAt b n = omega arith in
+    split (ltb b (head s BUSES)) (λ q. ltb-true _ _ q)
+    (λ q. absurd (omega (arith, seat-below g b n l (omega arith) (λ z. u (ap (at s SEAT) i-is ∙ z)), g .buses b l .1 (ltb-false _ _ q) .0 .1)))
+
 -- ---- who leaves every bus
 module _ (k : Caps) (a : ℕ) where
   -- the first buses: sound as before
@@ -176,7 +198,8 @@ module _ (k : Caps) (a : ℕ) where
       split (sits u b (suc a))
       (λ q. let there = sits-there u b (suc a) q in
       let gone : getD (set (u SEAT) (seatAt b j) 0) (seatAt c n) 0 ≡ suc a = rw (q, standUp-seats k u b j) at e in
-      let r : eqb (seatAt c n) (seatAt b j) ≡ false = ne-eqb (seatAt c n) (seatAt b j) (λ z. omega (arith, gone, ap (λ (i : ℕ). getD (set (u SEAT) (seatAt b j) 0) i 0) z, set-zero (u SEAT) (seatAt b j))) in
+      let r : eqb (seatAt c n) (seatAt b j) ≡ false =
+      ne-eqb (seatAt c n) (seatAt b j) (λ z. omega (arith, gone, ap (λ (i : ℕ). getD (set (u SEAT) (seatAt b j) 0) i 0) z, set-zero (u SEAT) (seatAt b j))) in
       let here : inSeat u c n ≡ suc a = sym (other (u SEAT) (seatAt b j) 0 (seatAt c n) r) ∙ gone in
       (here, λ z. let y : n ≡ j = seat-once g b n j l h (sits-seat u b (suc a) q) (λ x. omega arith) ((rw z at here) ∙ sym there) in eqb-false (seatAt c n) (seatAt b j) r (omega arith)))
       (λ q. let here : inSeat u c n ≡ suc a = rw q at e in
@@ -201,14 +224,8 @@ module _ (k : Caps) (a : ℕ) where
       let t = leaveBuses k a (head s BUSES) s in
       let v = leaveBuses-keeps s g in
       let made : head t BUSES ≡ head s BUSES = ap (λ (l : List ℕ). getD l 0 0) (wrote-leaveBuses k a (head s BUSES) s .cols BUSES refl) in
-      let l = used-inside (t SEAT) i (λ z. omega arith) in
-      let c : i / MOST-SEATS < MOST-BUSES = omega (arith, v .sized .words SEAT (lit< tt)) in
       let i-is : i ≡ seatAt (i / MOST-SEATS) (i % MOST-SEATS) = omega arith in
-      let here : inSeat t (i / MOST-SEATS) (i % MOST-SEATS) ≡ suc a = ap (at t SEAT) (sym i-is) ∙ e in
-      split (ltb (i / MOST-SEATS) (head s BUSES))
-      (λ q. leave-none (head s BUSES) s g (buses-fit g) (i / MOST-SEATS) (i % MOST-SEATS) (ltb-true _ _ q) (omega arith) here)
-      (λ q. let h = ltb-false (i / MOST-SEATS) (head s BUSES) q in
-      omega (arith, seat-below v (i / MOST-SEATS) (i % MOST-SEATS) c (omega arith) (λ z. omega arith), v .buses (i / MOST-SEATS) c .1 (omega arith) .0 .1))
+      leave-none (head s BUSES) s g (buses-fit g) (i / MOST-SEATS) (i % MOST-SEATS) (omega (arith, seat-made k t v i (λ z. omega arith))) (omega arith) (ap (at t SEAT) (sym i-is) ∙ e)
 
 -- ---- one sits down
 module _ (k : Caps) (s : State) (g : Good k s) (b n a : ℕ) (bl : b < MOST-BUSES) (nl : n < at s BUS-SEATS b) (empty : inSeat s b n ≡ 0)
@@ -263,7 +280,7 @@ module _ (k : Caps) (s : State) (g : Good k s) (b n a : ℕ) (bl : b < MOST-BUSE
 
 -- ---- a bus is made
 -- what is asked of a new bus
-pub bus-fair : (entries subscribers reads age : ℕ) → badBus entries subscribers reads age ≡ false →
+bus-fair : (entries subscribers reads age : ℕ) → badBus entries subscribers reads age ≡ false →
     (1 ≤ entries) × (entries ≤ MOST-VALUES) × (1 ≤ subscribers) × (subscribers ≤ MOST-SEATS) × (reads ≤ MOST-READS) × (age ≤ LONGEST-AGE)
 bus-fair entries subscribers reads age q =
     let few = eqb entries 0 || ltb MOST-VALUES entries in

@@ -1,24 +1,24 @@
 -- What is done to the values of the buses keeps a sound state sound.
 use Prim.Native.Nat.{ℕ, zero, suc, _+_, _-_, _≤_, _<_}
-use native.Mathlib.Decide.{decLt}
 use native.Mathlib.Nat.{add-zero}
 use native.Mathlib.Omega.{arith}
 use mathlib.Core.Path.{_≡_, refl, _∙_}
 use mathlib.Core.Bool.{cond, Bool, true, false, not, _&&_}
-use mathlib.Core.List.{List, _∷_, map}
+use mathlib.Core.List.{List, _∷_}
 use mir.Val.{boolByte}
-use lib.ListN.{length, getD, set, take, drop, length-map, List·getD-append, take-append-drop}
-use lib.Seq.{getD-append-add, getD-drop, getD-take, length-take-le}
+use lib.ListN.{length, getD, set, take, drop, List·getD-eq-default, take-append-drop}
+use lib.Seq.{getD-take, length-take-le}
 use lib.Dec.{eqb, ltb, lit<}
-use borrow.Author.Tests.{eqb-true, eqb-false, eq-eqb, le-ltb, leb-false, leb-true, lt-ltb, ltb-false, ltb-true, ne-eqb, not-false, not-true}
-use Rattle.pools.specs.Pool.{Exact, lowest, occurs}
+use borrow.Author.Tests.{eqb-true, eqb-false, eq-eqb, le-ltb, leb-false, leb-true, lt-ltb, ltb-true, ne-eqb, not-false}
+use Rattle.pools.specs.Pool.{lowest, occurs}
 use Rattle.pools.specs.Lists.{without}
-use Rattle.pools.specs.Bits.{bit, cleared, free, marked, released, taken}
+use Rattle.pools.specs.Bits.{bit, cleared, free, marked, released}
+use Rattle.pools.specs.Slot.{unused}
 use Rattle.pools.proofs.BoolLaws.{split, flag≤, true-false}
-use Rattle.pools.proofs.ListLaws.{length-without, occurs-append, occurs-place, occurs-pos, occurs-without, without-at, without-before}
+use Rattle.pools.proofs.ListLaws.{occurs-append, occurs-place, occurs-without}
 use Rattle.pools.proofs.PoolLaws.{count-not, count-some, lowest-at, room-iff}
-use Rattle.pools.proofs.BitLaws.{add-other, add-same, bit-none, cleared-other, cleared-same, marked-other, marked-same}
-use Rattle.pools.proofs.FreeLaws.{free-inside, released-other, released-same, taken-other, taken-same}
+use Rattle.pools.proofs.BitLaws.{add-other, add-same, bit-none, cleared-other, cleared-same, marked-other}
+use Rattle.pools.proofs.FreeLaws.{free-inside, released-same, taken-same}
 use Rattle.pools.proofs.ExactLaws.{exact-length}
 use Rattle.tables.specs.declared.Caps.{Caps}
 use Rattle.tables.specs.Columns.{AGE, BUS-SIZE, BUSES, CLOCK, DATA-FREE, ISSUE, ISSUED, LENGTH, MAIL-DATA, PAYLOAD, PUBLISHED, READERS, SENDER, VALUE-BUS}
@@ -29,73 +29,37 @@ use Rattle.rules.specs.Rule.{Holds}
 use Rattle.rules.specs.Sound.{crowdRule, dataRule, heldRule, issueRule, issuedRule, pairRule, valueRule}
 use Rattle.rules.specs.Actions.{dataFor}
 use Rattle.rules.specs.Buses.{aired, airing, audience, broadcast, busFull, evict, hasRead, inSeat, isOn, isStale, issue, mayRead, oldestOn, readOff, readOut, retire, signed, valueAt}
-use Rattle.rules.specs.Agrees.{upTo}
+use Rattle.rules.specs.Agrees.{valuesIn}
 use Rattle.rules.specs.Good.{Good}
 use Rattle.rules.proofs.Frames.Wrote.{Wrote, mem, wrote-none, wrote-poke, wrote-pull, wrote-push}
 use Rattle.rules.proofs.Frames.Buses.{AIRED, beside-evict}
-use Rattle.rules.proofs.Lists.Columns.{each-set, other, set-zero}
+use Rattle.rules.proofs.Lists.Columns.{closed-first, closed-past, each-set, other, set-zero}
 use Rattle.rules.proofs.Lists.Ties.{step}
-use Rattle.rules.proofs.Lists.Messages.{DataAt, Wiped, Written, bits-free, bits-take, data-same, header-same, written}
+use Rattle.rules.proofs.Lists.Messages.{Wiped, Written, bits-free, bits-take, datas-free, datas-take, written}
 use Rattle.rules.proofs.Kept.Clauses.{bus-made, buses-fit, issue-fits, issue-some, read-back, read-down, values-fit}
 use Rattle.rules.proofs.Kept.Groups as Part
-use Rattle.rules.proofs.Kept.Messages.{fill-is, filled, ink, unfill-is, unfilled, wipe, wipe-is, wrote-filled, wrote-unfilled}
-use Rattle.rules.proofs.Kept.Owners.{free-no-value, occurs-column, occurs-set, owned, owner-else, owner-free, owner-fresh, owner-take, upTo-exact, upTo-length, value-issued, values-exact}
+use Rattle.rules.proofs.Kept.Messages.{fill-is, filled, filters-else, ink, unfill-is, unfilled, wipe, wipe-is, wrote-filled, wrote-unfilled}
+use Rattle.rules.proofs.Kept.Owners.{free-no-value, occurs-set, owned, owner-else, owner-free, owner-fresh, owner-take, unissued, zero-no-up}
 use Rattle.rules.proofs.Kept.Patch.{_by_also_, done, patch}
+use Rattle.rules.proofs.Kept.Row.{row-fits, used-value, value-at, value-below, value-there, values-listed, values-long}
 
 -- ---- numbers one up
 -- one stands once less where a 0 is written over it
-pub zeroed-occurs : (x : ℕ) (l : List ℕ) (i : ℕ) → i < length l → occurs (suc x) (set l i 0) + boolByte (eqb (getD l i 0) (suc x)) ≡ occurs (suc x) l
-zeroed-occurs x l i h =
-    let none : boolByte (eqb 0 (suc x)) ≡ 0 = rw (ne-eqb 0 (suc x) (λ e. omega arith)) in
-    omega (arith, none, occurs-set (suc x) l i 0 h)
+zeroed-occurs : (x : ℕ) (l : List ℕ) (i : ℕ) → i < length l → occurs (suc x) (set l i 0) + boolByte (eqb (getD l i 0) (suc x)) ≡ occurs (suc x) l
+zeroed-occurs x l i h = omega (arith, zero-no-up x, occurs-set (suc x) l i 0 h)
 
--- ---- a counted list of them, that closes up over its j-th word
-module _ (m j : ℕ) (l : List ℕ) (h : j < m) (w : m ≤ length l) where
-  -- a number one up stands there as often as with a 0 for that word
-  pub closed-occurs : (x : ℕ) → occurs (suc x) (closed m j l) ≡ occurs (suc x) (set l j 0)
-  unfolding occurs
-  closed-occurs x =
-      let t = length-take-le m l w in
-      let none : boolByte (eqb 0 (suc x)) ≡ 0 = rw (ne-eqb 0 (suc x) (λ e. omega arith)) in
-      let all = rw (take-append-drop m l) at (occurs-append (suc x) (take m l) (drop m l)) in
-      let gone = rw (getD-take m l j 0 h) at (occurs-without (suc x) j (take m l) (omega arith)) in
-      occurs-append (suc x) (without j (take m l)) (0 ∷ drop m l) ∙ omega (arith, none, gone, all, zeroed-occurs x l j (omega arith))
-
-  -- one word fewer is before the 0 that comes after them
-  short : length (without j (take m l)) ≡ m - 1
-  short = let t = length-take-le m l w in omega (arith, length-without (take m l) j (omega arith))
-
-  -- what is so of each word that counts is so of those that count then
-  pub closed-first : (P : ℕ → Type 0) → ((i : ℕ) → i < m → P (getD l i 0)) → (i : ℕ) → i < m - 1 → P (getD (closed m j l) i 0)
-  closed-first P p i u =
-      let t = length-take-le m l w in
-      rw (List·getD-append (without j (take m l)) (0 ∷ drop m l) 0 i (omega (arith, short)))
-      (elim (decLt i j) [
-        | yes b ↦ rw (without-before (take m l) j i b (omega arith), getD-take m l i 0 (omega arith)) (p i (omega arith))
-        | no b ↦ rw (without-at (take m l) j i (omega arith) (omega arith), getD-take m l (i + 1) 0 (omega arith)) (p (i + 1) (omega arith))
-      ])
-
-  -- and past them are zeros, where there were zeros past the others
-  pub closed-past : ((i : ℕ) → m ≤ i → getD l i 0 ≡ 0) → (i : ℕ) → m - 1 ≤ i → getD (closed m j l) i 0 ≡ 0
-  closed-past z i u =
-      let e : i ≡ length (without j (take m l)) + (i - (m - 1)) = omega (arith, short) in
-      rw (e, getD-append-add (without j (take m l)) (0 ∷ drop m l) (i - (m - 1)) 0) (past (i - (m - 1)))
-    where
-      -- the 0 and the words after it
-      past : (x : ℕ) → getD (0 ∷ drop m l) x 0 ≡ 0
-      past zero = refl
-      past (suc x) = getD-drop m l x 0 ∙ z (m + x) (omega arith)
-
--- ---- the row of values
--- past the values its words are 0
-pub unissued : (k : Caps) (s : State) → Good k s → (i : ℕ) → head s ISSUED ≤ i → at s ISSUE i ≡ 0
-unissued k s g i h =
-    split (eqb (at s ISSUE i) 0) (λ q. eqb-true _ _ q)
-    (λ q. absurd (omega (arith, rw q at (values-exact k s g i), rw (le-ltb i (head s ISSUED) h) at (upTo-exact (head s ISSUED) i))))
+-- in a counted list that closes up over its j-th word one stands as often as with a 0 for that word
+closed-occurs : (m j : ℕ) (l : List ℕ) → j < m → m ≤ length l → (x : ℕ) → occurs (suc x) (closed m j l) ≡ occurs (suc x) (set l j 0)
+unfolding occurs
+closed-occurs m j l h w x =
+    let t = length-take-le m l w in
+    let all = rw (take-append-drop m l) at (occurs-append (suc x) (take m l) (drop m l)) in
+    let gone = rw (getD-take m l j 0 h) at (occurs-without (suc x) j (take m l) (omega arith)) in
+    occurs-append (suc x) (without j (take m l)) (0 ∷ drop m l) ∙ omega (arith, zero-no-up x, gone, all, zeroed-occurs x l j (omega arith))
 
 -- ---- a value ends
 -- the state with the j-th ended, which was in data entry d, where q is the payload area with that entry wiped
-abbrev pub retired : State → ℕ → ℕ → List ℕ → State
+abbrev retired : State → ℕ → ℕ → List ℕ → State
 retired s j d q = pull (poke (poke (poke (unfilled s d q) VALUE-BUS d 0) READERS d 0) PUBLISHED d 0) ISSUE ISSUED j
 
 -- which is what its end leaves
@@ -104,27 +68,9 @@ unfolding retire
 retire-is s j = rw (unfill-is s (valueAt s j))
 
 module _ (k : Caps) (s : State) (g : Good k s) (j : ℕ) (jl : j < head s ISSUED) where
-  -- its word of the row names its data entry
-  pub value-at : at s ISSUE j ≡ suc (valueAt s j)
-  value-at = omega (arith, issue-some g j jl)
-
-  -- which is one of the data entries
-  pub value-below : valueAt s j < k .datas
-  value-below = omega (arith, issue-some g j jl, issue-fits g j)
-
-  -- the row fits its column
-  row-fits : head s ISSUED ≤ length (s ISSUE)
-  row-fits = omega (arith, values-fit g, g .sized .words ISSUE (lit< tt))
-
   -- each number one up stands in the row as if a 0 stood for its word
   row-closed : (x : ℕ) → occurs (suc x) (closed (head s ISSUED) j (s ISSUE)) ≡ occurs (suc x) (set (s ISSUE) j 0)
-  row-closed = closed-occurs (head s ISSUED) j (s ISSUE) jl row-fits
-
-  -- the data entry holds a value
-  pub value-there : at s VALUE-BUS (valueAt s j) ≡ 0 → ⊥
-  value-there z =
-      let o = occurs-pos (suc (valueAt s j)) (s ISSUE) j (omega (arith, row-fits)) value-at in
-      omega (arith, o, rw z at (g .issued (valueAt s j) value-below))
+  row-closed = closed-occurs (head s ISSUED) j (s ISSUE) jl (row-fits k s g)
 
   -- how many values there are, one down
   one-less : getD (set (s ISSUED) 0 (head s ISSUED - 1)) 0 0 ≡ head s ISSUED - 1
@@ -136,23 +82,12 @@ module _ (k : Caps) (s : State) (g : Good k s) (j : ℕ) (jl : j < head s ISSUED
     unfolding pull poke with-col freeBit
     wrote-retired =
         let d = valueAt s j in
-        wrote-pull (wrote-poke (wrote-poke (wrote-poke (wrote-unfilled (wrote-none s) d q (w .long)) VALUE-BUS d 0) READERS d 0) PUBLISHED d 0) ISSUE ISSUED j jl row-fits
-
-    -- the data entries are sound
-    retired-datas : (e : ℕ) → e < k .datas → Holds (dataRule (retired s j (valueAt s j) q) e)
-    unfolding pull poke with-col freeBit
-    retired-datas e m =
-        let d = valueAt s j in
-        let f = released-same (s DATA-FREE) d (owned k s g .bits d value-below) in
-        each-set (DataAt (released (s DATA-FREE) d) (set (s SENDER) d 0) (set (s LENGTH) d 0) (set (s VALUE-BUS) d 0) q (s AGE)) d e
-        (λ u. ((set-zero (s SENDER) d, set-zero (s LENGTH) d), w .blank), λ u. true-false (free (released (s DATA-FREE) d) d) f (not-true (free (released (s DATA-FREE) d) d) u))
-        (λ r. data-same (s DATA-FREE) (released (s DATA-FREE) d) (s SENDER) (set (s SENDER) d 0) (s LENGTH) (set (s LENGTH) d 0) (s VALUE-BUS) (set (s VALUE-BUS) d 0) (s PAYLOAD) q (s AGE) e
-        (released-other (s DATA-FREE) d e (eqb-false e d r)) (other (s SENDER) d 0 e r) (other (s LENGTH) d 0 e r) (other (s VALUE-BUS) d 0 e r) (w .apart e r) (g .datas e m))
+        wrote-pull (wrote-poke (wrote-poke (wrote-poke (wrote-unfilled (wrote-none s) d q (w .long)) VALUE-BUS d 0) READERS d 0) PUBLISHED d 0) ISSUE ISSUED j jl (row-fits k s g)
 
     -- each data entry is held once, or free
     retired-held : (x : ℕ) → x < k .datas → Holds (heldRule (retired s j (valueAt s j) q) x)
     unfolding pull poke with-col freeBit
-    retired-held x l = rw (row-closed x) (owner-free (owned k s g) ISSUE j refl (valueAt s j) value-at x l)
+    retired-held x l = rw (row-closed x) (owner-free (owned k s g) ISSUE j refl (valueAt s j) (value-at k s g j jl) x l)
 
     -- each value that is left is in the row once
     retired-issued : (e : ℕ) → e < k .datas → Holds (issuedRule (retired s j (valueAt s j) q) e)
@@ -161,9 +96,9 @@ module _ (k : Caps) (s : State) (g : Good k s) (j : ℕ) (jl : j < head s ISSUED
         let d = valueAt s j in
         rw (row-closed e)
         (each-set (λ e. e < k .datas → occurs (suc e) (set (s ISSUE) j 0) ≡ boolByte (not (eqb (getD (set (s VALUE-BUS) d 0) e 0) 0))) d e
-        (λ l. let o = rw (eq-eqb (at s ISSUE j) (suc d) value-at) at (zeroed-occurs d (s ISSUE) j (omega (arith, row-fits))) in
+        (λ l. let o = rw (eq-eqb (at s ISSUE j) (suc d) (value-at k s g j jl)) at (zeroed-occurs d (s ISSUE) j (omega (arith, row-fits k s g))) in
         rw (set-zero (s VALUE-BUS) d) (omega (arith, o, g .issued d l, flag≤ (not (eqb (at s VALUE-BUS d) 0)))))
-        (λ r l. let o = rw (ne-eqb (at s ISSUE j) (suc e) (λ z. eqb-false e d r (omega (arith, value-at)))) at (zeroed-occurs e (s ISSUE) j (omega (arith, row-fits))) in
+        (λ r l. let o = rw (ne-eqb (at s ISSUE j) (suc e) (λ z. eqb-false e d r (omega (arith, value-at k s g j jl)))) at (zeroed-occurs e (s ISSUE) j (omega (arith, row-fits k s g))) in
         rw (other (s VALUE-BUS) d 0 e r) (omega (arith, o, g .issued e l))) l)
 
     -- the values that are left
@@ -176,30 +111,33 @@ module _ (k : Caps) (s : State) (g : Good k s) (j : ℕ) (jl : j < head s ISSUED
         (λ r. rw (other (s VALUE-BUS) d 0 e r, other (s READERS) d 0 e r, other (s PUBLISHED) d 0 e r) (g .values e l))
 
     -- sound as before
-    pub retired-good : Good k (retired s j (valueAt s j) q)
+    retired-good : Good k (retired s j (valueAt s j) q)
     unfolding pull poke with-col freeBit pairRule
     retired-good =
         let d = valueAt s j in
         patch k g wrote-retired (
         Part.head by (rw one-less (g .head .0, (g .head .1 .0, (omega (arith, values-fit g), g .head .1 .1 .1)))) also
-        Part.dataBits by (bits-free (k .datas) (s DATA-FREE) d value-below (g .dataBits)) also
-        Part.filters by (λ f m u.
-        let r = owner-else (owned k s g) ISSUE j refl d value-at MAIL-DATA f refl (g .mails f m .1 (u .0) .1 .0) refl in
-        rw (other (s SENDER) d 0 (at s MAIL-DATA f - 1) r, header-same (s PAYLOAD) q (at s MAIL-DATA f - 1) (w .apart (at s MAIL-DATA f - 1) r)) (g .filters f m u)) also
-        Part.datas by retired-datas also
+        Part.dataBits by (bits-free (k .datas) (s DATA-FREE) d (value-below k s g j jl) (g .dataBits)) also
+        Part.filters by (filters-else k s g d 0 q (w .apart) (λ f n. owner-else (owned k s g) ISSUE j refl d (value-at k s g j jl) MAIL-DATA f refl n refl)) also
+        Part.datas by (λ e m. datas-free (s DATA-FREE) (s SENDER) (s LENGTH) (s VALUE-BUS) (set (s VALUE-BUS) d 0) (s PAYLOAD) q (s AGE) d (other (s VALUE-BUS) d 0)
+        (owned k s g .bits d (value-below k s g j jl)) w e (g .datas e m)) also
         Part.held by retired-held also
         Part.values by retired-values also
         Part.issues by (rw one-less (λ i l. (
-          closed-first (head s ISSUED) j (s ISSUE) jl row-fits (λ x. (1 ≤ x) × (x ≤ k .datas)) (λ i l. (issue-some g i l, issue-fits g i)) i,
-          closed-past (head s ISSUED) j (s ISSUE) jl row-fits (unissued k s g) i,
+          closed-first (head s ISSUED) j (s ISSUE) jl (row-fits k s g) (λ x. (1 ≤ x) × (x ≤ k .datas)) (λ i l. (issue-some g i l, issue-fits g i)) i,
+          λ u. closed-past (head s ISSUED) j (s ISSUE) jl (row-fits k s g) i u (unissued k s g i),
         ))) also
         Part.issued by retired-issued also
-        Part.crowds by (λ b l. omega (arith, zeroed-occurs b (s VALUE-BUS) d (omega (arith, value-below, g .sized .words VALUE-BUS (lit< tt))), g .crowds b l)) also
+        Part.crowds by (λ b l. omega (arith, zeroed-occurs b (s VALUE-BUS) d (omega (arith, value-below k s g j jl, g .sized .words VALUE-BUS (lit< tt))), g .crowds b l)) also
         done) refl
 
   -- THE THEOREM of a value that ends
   pub retire-keeps : Good k (retire s j)
-  retire-keeps = rw (retire-is s j) (retired-good (wipe (s PAYLOAD) (valueAt s j)) (wipe-is k s (valueAt s j) (g .sized) value-below))
+  retire-keeps = rw (retire-is s j) (retired-good (wipe (s PAYLOAD) (valueAt s j)) (wipe-is k s (valueAt s j) (g .sized) (value-below k s g j jl)))
+
+  -- the columns of values are written
+  pub wrote-retire : Wrote AIRED s (retire s j)
+  wrote-retire = rw (retire-is s j) (wrote-retired (wipe (s PAYLOAD) (valueAt s j)) (wipe-is k s (valueAt s j) (g .sized) (value-below k s g j jl)))
 
   -- one value less is in the row
   pub retire-count : head (retire s j) ISSUED ≡ head s ISSUED - 1
@@ -208,7 +146,7 @@ module _ (k : Caps) (s : State) (g : Good k s) (j : ℕ) (jl : j < head s ISSUED
 
 -- ---- values that have reached their age end
 -- those among the first
-pub airing-keeps : (k : Caps) (i : ℕ) (s : State) → Good k s → i ≤ head s ISSUED → Good k (airing i s)
+airing-keeps : (k : Caps) (i : ℕ) (s : State) → Good k s → i ≤ head s ISSUED → Good k (airing i s)
 unfolding airing
 airing-keeps k zero s g h = g
 airing-keeps k (suc i) s g h =
@@ -221,12 +159,13 @@ pub aired-keeps : (k : Caps) (s : State) → Good k s → Good k (aired s)
 aired-keeps k s g = airing-keeps k (head s ISSUED) s g (omega arith)
 
 -- ---- a full bus makes room
--- what an end leaves in the columns of buses and of free bits
+-- what an end leaves in the column of the buses of values
 pub retire-bus : (s : State) (j : ℕ) → retire s j VALUE-BUS ≡ set (s VALUE-BUS) (valueAt s j) 0
 unfolding pull poke with-col freeBit
 retire-bus s j = rw (retire-is s j)
 
-pub retire-free : (s : State) (j : ℕ) → retire s j DATA-FREE ≡ released (s DATA-FREE) (valueAt s j)
+-- and in that of the free bits
+retire-free : (s : State) (j : ℕ) → retire s j DATA-FREE ≡ released (s DATA-FREE) (valueAt s j)
 unfolding pull poke with-col freeBit
 retire-free s j = rw (retire-is s j)
 
@@ -239,10 +178,8 @@ module _ (k : Caps) (s : State) (g : Good k s) (b : ℕ) (made : b < head s BUSE
   pub oldest-there : busFull s b ≡ true → oldestOn s b < head s ISSUED
   oldest-there q =
       let p = occurs-place (suc b) (s VALUE-BUS) (omega (arith, leb-true (at s BUS-SIZE b) (occurs (suc b) (s VALUE-BUS)) q, bus-made g b made .0)) in
-      let l : p .0 < k .datas = omega (arith, p .1, g .sized .words VALUE-BUS (lit< tt)) in
-      let (i, e) = value-issued k s g (p .0) l (λ z. omega (arith, p .2)) in
-      let below : i < head s ISSUED = elim (decLt i (head s ISSUED)) [ yes y ↦ y | no y ↦ absurd (omega (arith, unissued k s g i (omega arith))) ] in
-      lowest-some (isOn s b) i (head s ISSUED) below (let d-is : at s ISSUE i - 1 ≡ p .0 = omega arith in rw d-is (eq-eqb (at s VALUE-BUS (p .0)) (suc b) (p .2)))
+      let (j, below, e) = used-value k s g (p .0) (λ z. omega (arith, p .2)) in
+      lowest-some (isOn s b) j (head s ISSUED) below (rw e (eq-eqb (at s VALUE-BUS (p .0)) (suc b) (p .2)))
 
   -- THE THEOREM of a full bus that makes room: sound as before
   pub evict-keeps : Good k (evict s b)
@@ -250,7 +187,7 @@ module _ (k : Caps) (s : State) (g : Good k s) (b : ℕ) (made : b < head s BUSE
   evict-keeps = split (busFull s b) (λ q. rw q (retire-keeps k s g (oldestOn s b) (oldest-there q))) (λ q. rw q g)
 
   -- the bus then has room for a value
-  pub evict-room : occurs (suc b) (evict s b VALUE-BUS) < at s BUS-SIZE b
+  evict-room : occurs (suc b) (evict s b VALUE-BUS) < at s BUS-SIZE b
   unfolding evict
   evict-room =
       split (busFull s b)
@@ -289,7 +226,7 @@ module _ (s : State) (b : ℕ) where
       (λ r. rw (step m n r) (add-other x (MOST-SEATS + m) (MOST-SEATS + n) bare (λ z. eqb-false n m r (omega arith)) ∙ audience-may m n))))
 
   -- one more of them is one more bit
-  pub audience-marks : (m : ℕ) → audience s b (suc m) ≡ cond (eqb (inSeat s b m) 0) (audience s b m) (marked (audience s b m) (MOST-SEATS + m))
+  audience-marks : (m : ℕ) → audience s b (suc m) ≡ cond (eqb (inSeat s b m) 0) (audience s b m) (marked (audience s b m) (MOST-SEATS + m))
   unfolding audience
   audience-marks m =
       let bare : bit (audience s b m) (MOST-SEATS + m) ≡ 0 = audience-may m m ∙ rw (le-ltb m m (omega arith)) in
@@ -315,33 +252,26 @@ unfolding issue
 issue-is s d b payload = rw (fill-is s d 0 0 payload)
 
 module _ (k : Caps) (s : State) (g : Good k s) (d : ℕ) (below : d < k .datas) (df : free (s DATA-FREE) d ≡ true) where
-  -- the data entries that the row names are those with a value, each once
-  row-exact : Exact (map (λ i. at s ISSUE i - 1) (upTo (head s ISSUED))) (λ e. ltb e (k .datas) && not (eqb (at s VALUE-BUS e) 0))
-  row-exact e =
-      occurs-column e (s ISSUE) (upTo (head s ISSUED)) (values-exact k s g)
-      ∙ split (ltb e (k .datas))
-      (λ q. rw q (g .issued e (ltb-true e (k .datas) q)))
-      (λ q. rw q (elim (decLt 0 (occurs (suc e) (s ISSUE))) [
-        | yes o ↦ let p = occurs-place (suc e) (s ISSUE) o in absurd (omega (arith, p .2, issue-fits g (p .0), ltb-false e (k .datas) q))
-        | no o ↦ omega arith
-      ]))
-
   -- where a data entry is free the row has room
-  pub row-room : head s ISSUED < k .datas
+  row-room : head s ISSUED < k .datas
   row-room =
-      let valued : ℕ → Bool = λ e. ltb e (k .datas) && not (eqb (at s VALUE-BUS e) 0) in
-      let long = length-map (upTo (head s ISSUED)) (λ i. at s ISSUE i - 1) in
-      let all = exact-length valued (k .datas) (map (λ i. at s ISSUE i - 1) (upTo (head s ISSUED))) (λ e l. rw (le-ltb e (k .datas) l)) row-exact in
-      let none = count-some (λ e. not (valued e)) d (k .datas) below (rw (lt-ltb d (k .datas) below, free-no-value k s g d below df)) in
-      omega (arith, upTo-length (head s ISSUED), long, all, none, count-not valued (k .datas))
+      let valued : ℕ → Bool = λ e. not (unused (s VALUE-BUS) e) in
+      let past : (e : ℕ) → k .datas ≤ e → at s VALUE-BUS e ≡ 0 = λ e l. List·getD-eq-default (s VALUE-BUS) 0 {n = e} (omega (arith, g .sized .words VALUE-BUS (lit< tt))) in
+      let all = exact-length valued (k .datas) (valuesIn s) (λ e l. rw (past e l)) (values-listed k s g) in
+      let none = count-some (λ e. not (valued e)) d (k .datas) below (rw (free-no-value k s g d below df)) in
+      omega (arith, values-long k s g, all, none, count-not valued (k .datas))
 
   -- the next word of the row is one of its column
-  row-next : head s ISSUED < length (s ISSUE)
+  pub row-next : head s ISSUED < length (s ISSUE)
   row-next = omega (arith, row-room, g .sized .words ISSUE (lit< tt))
 
   -- one more value is in the row
   one-more : getD (set (s ISSUED) 0 (head s ISSUED + 1)) 0 0 ≡ head s ISSUED + 1
   one-more = read-back g ISSUED 0 (head s ISSUED + 1) tt (omega arith)
+
+  -- its entry has its bytes, once they are written
+  pub issue-text : (payload : List ℕ) → length payload ≤ PAYLOAD-MOST → Written (s PAYLOAD) (ink s d 0 payload) d 0 payload
+  issue-text payload short = written (s PAYLOAD) payload d 0 (omega (arith, g .sized .bytes)) (lit< tt) short (g .datas d below .0 df .1)
 
   -- of bus b, which is made and has room for it, for those whom the mask names: they sit there, and have not read it
   module _ (b mask : ℕ) (q payload : List ℕ) (made : b < head s BUSES) (room : occurs (suc b) (s VALUE-BUS) < at s BUS-SIZE b)
@@ -356,11 +286,16 @@ module _ (k : Caps) (s : State) (g : Good k s) (d : ℕ) (below : d < k .datas) 
     begun-datas : (e : ℕ) → e < k .datas → Holds (dataRule (begun s d b mask (length payload) q) e)
     unfolding push poke with-col takeBit
     begun-datas e m =
-        each-set (DataAt (taken (s DATA-FREE) d) (set (s SENDER) d 0) (set (s LENGTH) d (length payload)) (set (s VALUE-BUS) d (suc b)) q (s AGE)) d e
-        (rw (taken-same (s DATA-FREE) d (free-inside (s DATA-FREE) d df), read-back g SENDER d 0 tt below, read-back g LENGTH d (length payload) tt below, read-back g VALUE-BUS d (suc b) tt below, w .header)
+        datas-take (s DATA-FREE) (s SENDER) (s LENGTH) (s VALUE-BUS) (set (s VALUE-BUS) d (suc b)) (s PAYLOAD) q (s AGE) d (other (s VALUE-BUS) d (suc b)) 0 (length payload) (w .apart)
+        (rw (
+          taken-same (s DATA-FREE) d (free-inside (s DATA-FREE) d df),
+          read-back g SENDER d 0 tt below,
+          read-back g LENGTH d (length payload) tt below,
+          read-back g VALUE-BUS d (suc b) tt below,
+          w .header,
+        )
         (λ u. true-false false u refl, λ u. (λ z. absurd (omega arith), λ z. ((refl, refl), (short, w .past)))))
-        (λ r. data-same (s DATA-FREE) (taken (s DATA-FREE) d) (s SENDER) (set (s SENDER) d 0) (s LENGTH) (set (s LENGTH) d (length payload)) (s VALUE-BUS) (set (s VALUE-BUS) d (suc b)) (s PAYLOAD) q (s AGE) e
-        (taken-other (s DATA-FREE) d e (eqb-false e d r)) (other (s SENDER) d 0 e r) (other (s LENGTH) d (length payload) e r) (other (s VALUE-BUS) d (suc b) e r) (w .apart e r) (g .datas e m))
+        e (g .datas e m)
 
     -- so are the values
     begun-values : (e : ℕ) → e < k .datas → Holds (valueRule (begun s d b mask (length payload) q) e)
@@ -401,15 +336,13 @@ module _ (k : Caps) (s : State) (g : Good k s) (d : ℕ) (below : d < k .datas) 
         (λ r. omega (arith, rw (ne-eqb (suc b) (suc c) (λ y. eqb-false c b r (omega arith))) at o, g .crowds c l))
 
     -- sound as before
-    pub begun-good : Good k (begun s d b mask (length payload) q)
+    begun-good : Good k (begun s d b mask (length payload) q)
     unfolding push poke with-col takeBit pairRule
     begun-good =
         patch k g wrote-begun (
         Part.head by (rw one-more (g .head .0, (g .head .1 .0, (omega (arith, row-room), g .head .1 .1 .1)))) also
         Part.dataBits by (bits-take (k .datas) (s DATA-FREE) d below (g .dataBits)) also
-        Part.filters by (λ f m u.
-        let r = owner-fresh (owned k s g) MAIL-DATA f refl (g .mails f m .1 (u .0) .1 .0) d df in
-        rw (other (s SENDER) d 0 (at s MAIL-DATA f - 1) r, header-same (s PAYLOAD) q (at s MAIL-DATA f - 1) (w .apart (at s MAIL-DATA f - 1) r)) (g .filters f m u)) also
+        Part.filters by (filters-else k s g d 0 q (w .apart) (λ f n. owner-fresh (owned k s g) MAIL-DATA f refl n d df)) also
         Part.datas by begun-datas also
         Part.held by (owner-take (owned k s g) ISSUE (head s ISSUED) refl row-next (unissued k s g (head s ISSUED) (omega arith)) d df) also
         Part.values by begun-values also
@@ -421,8 +354,7 @@ module _ (k : Caps) (s : State) (g : Good k s) (d : ℕ) (below : d < k .datas) 
   -- THE THEOREM of a value that begins, on a bus with room for it: sound as before
   pub issue-keeps : (b : ℕ) (payload : List ℕ) → b < head s BUSES → occurs (suc b) (s VALUE-BUS) < at s BUS-SIZE b → length payload ≤ PAYLOAD-MOST → Good k (issue s d b payload)
   issue-keeps b payload made room short =
-      let w = written (s PAYLOAD) payload d 0 (omega (arith, g .sized .bytes)) (lit< tt) short (g .datas d below .0 df .1) in
-      rw (issue-is s d b payload) (begun-good b (audience s b MOST-SEATS) (ink s d 0 payload) payload made room short w
+      rw (issue-is s d b payload) (begun-good b (audience s b MOST-SEATS) (ink s d 0 payload) payload made room short (issue-text payload short)
       (λ m l u. (
         rw (audience-unread s b MOST-SEATS m l),
         λ z. omega (arith, eqb-true (bit (audience s b MOST-SEATS) (MOST-SEATS + m)) 1 u, rw (lt-ltb m MOST-SEATS l, z) at (audience-may s b MOST-SEATS m)),

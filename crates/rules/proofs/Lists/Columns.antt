@@ -49,6 +49,33 @@ set-zero l a =
       | no h ↦ ap (λ (m : List ℕ). getD m a 0) (set-out l a 0 (omega arith)) ∙ List·getD-eq-default l 0 (omega arith)
     ]
 
+-- ---- a counted list, in the first m words of a column, closes up over its j-th word
+module _ (m j : ℕ) (l : List ℕ) (h : j < m) (w : m ≤ length l) where
+  -- one word fewer is before the 0 that comes after them
+  closed-short : length (without j (take m l)) ≡ m - 1
+  closed-short = let t = length-take-le m l w in omega (arith, length-without (take m l) j (omega arith))
+
+  -- what is so of each word that counts is so of those that count then
+  pub closed-first : (P : ℕ → Type 0) → ((i : ℕ) → i < m → P (getD l i 0)) → (i : ℕ) → i < m - 1 → P (getD (closed m j l) i 0)
+  closed-first P p i u =
+      let t = length-take-le m l w in
+      rw (List·getD-append (without j (take m l)) (0 ∷ drop m l) 0 i (omega (arith, closed-short)))
+      (elim (decLt i j) [
+        | yes b ↦ rw (without-before (take m l) j i b (omega arith), getD-take m l i 0 (omega arith)) (p i (omega arith))
+        | no b ↦ rw (without-at (take m l) j i (omega arith) (omega arith), getD-take m l (i + 1) 0 (omega arith)) (p (i + 1) (omega arith))
+      ])
+
+  -- past them a word is 0, where it was 0 past the others
+  pub closed-past : (i : ℕ) → m - 1 ≤ i → (m ≤ i → getD l i 0 ≡ 0) → getD (closed m j l) i 0 ≡ 0
+  closed-past i u z =
+      let e : i ≡ length (without j (take m l)) + (i - (m - 1)) = omega (arith, closed-short) in
+      rw (e, getD-append-add (without j (take m l)) (0 ∷ drop m l) (i - (m - 1)) 0) (past (i - (m - 1)) (omega arith))
+    where
+      -- the 0, and the words after it
+      past : (x : ℕ) → m - 1 + x ≡ i → getD (0 ∷ drop m l) x 0 ≡ 0
+      past zero e = refl
+      past (suc x) e = let at-i : m + x ≡ i = omega arith in getD-drop m l x 0 ∙ ap (λ (y : ℕ). getD l y 0) at-i ∙ z (omega arith)
+
 -- ---- who is alive
 module _ (st : List ℕ) where
   -- a slot whose word is not 0
@@ -145,36 +172,16 @@ module _ (n m : ℕ) (q : List ℕ) (w : m ≤ n) (z : length q ≡ n) (h : List
       (λ e. rw (s b (eqb-false b a e), ne-eqb a b (λ r. eqb-false b a e (sym r))) (omega arith)))
 
   module _ (j : ℕ) (l : j < m) where
-    -- the list is one shorter
-    short : length (without j (take m q)) ≡ m - 1
-    short = let t = length-take-le m q (omega arith) in omega (arith, length-without (take m q) j (omega arith))
-
     -- the j-th leaves
     pub listed-leaves : Listed n (m - 1) (closed m j q)
-    listed-leaves i k = (
-      λ u. rw (List·getD-append (without j (take m q)) (0 ∷ drop m q) 0 i (omega (arith, short))) (before i u),
-      λ u. let e : i ≡ length (without j (take m q)) + (i - (m - 1)) = omega (arith, short) in
-          rw (e, getD-append-add (without j (take m q)) (0 ∷ drop m q) (i - (m - 1)) 0) (past (i - (m - 1)) (omega arith)),
-    )
-      where
-        before : (i : ℕ) → i < m - 1 → getD (without j (take m q)) i 0 < n
-        before i u =
-            let t = length-take-le m q (omega arith) in
-            elim (decLt i j) [
-              | yes p ↦ rw (without-before (take m q) j i p (omega arith), getD-take m q i 0 (omega arith)) (listed-at i (omega arith))
-              | no p ↦ rw (without-at (take m q) j i (omega arith) (omega arith), getD-take m q (i + 1) 0 (omega arith)) (listed-at (i + 1) (omega arith))
-            ]
-
-        past : (x : ℕ) → x + m ≤ n → getD (0 ∷ drop m q) x 0 ≡ 0
-        past zero c = refl
-        past (suc x) c = getD-drop m q x 0 ∙ h (m + x) (omega arith) .1 (omega arith)
+    listed-leaves i k = (closed-first m j q l (omega arith) (λ x. x < n) listed-at i, λ u. closed-past m j q l (omega arith) i u (h i k .1))
 
     -- the list then names it no more
     pub once-leaves : (f v : ℕ → Bool) → v (getD q j 0) ≡ false → ((b : ℕ) → (b ≡ getD q j 0 → ⊥) → v b ≡ f b) → Once n m q f → Once n (m - 1) (closed m j q) v
     once-leaves f v y s o b k =
         let t = length-take-le m q (omega arith) in
         let c = rw (getD-take m q j 0 l) at (occurs-without b j (take m q) (omega arith)) in
-        rw (take-at (without j (take m q)) (0 ∷ drop m q) (m - 1) short)
+        rw (take-at (without j (take m q)) (0 ∷ drop m q) (m - 1) (closed-short m j q l (omega arith)))
         (split (eqb (getD q j 0) b)
         (λ e. let r : b ≡ getD q j 0 = sym (eqb-true (getD q j 0) b e) in
         rw (ap v r ∙ y) (omega (arith, rw e at c, o b k, flag≤ (f b))))

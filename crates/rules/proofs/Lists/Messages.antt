@@ -1,16 +1,17 @@
 -- Facts on bare columns that the message actions turn on: free bits, data entries, an entry of the payload read back.
-use Prim.Native.Nat.{ℕ, _+_, _-_, _*_, _^_, _≤_, _<_}
+use Prim.Native.Nat.{ℕ, _+_, _-_, _*_, _/_, _^_, _≤_, _<_}
 use native.Mathlib.Omega.{arith}
 use mathlib.Core.Path.{_≡_, refl, sym, ap, _∙_}
 use mathlib.Core.Bool.{true, false, not}
 use mathlib.Core.List.{List, _++_, append-assoc}
-use lib.ListN.{length, getD, take, drop, replicate, length-append, length-drop, length-replicate, getD-replicate}
+use lib.ListN.{length, getD, set, take, drop, replicate, length-append, length-drop, length-replicate, getD-replicate}
 use lib.Seq.{getD-take, getD-drop, take-take, take-at, drop-at, drop-drop, getD-append-add, length-take-le, ext-getD, sets, length-sets}
 use lib.Dec.{eqb}
-use borrow.Author.Tests.{eqb-false}
-use Rattle.pools.specs.Bits.{free, taken, released}
+use borrow.Author.Tests.{eqb-false, not-true}
+use Rattle.pools.specs.Bits.{WORD-BITS, free, taken, released}
+use Rattle.pools.proofs.BoolLaws.{true-false}
 use Rattle.pools.proofs.ListLaws.{part-take}
-use Rattle.pools.proofs.FreeLaws.{released-other, taken-other}
+use Rattle.pools.proofs.FreeLaws.{released-other, released-same, taken-other}
 use Rattle.records.specs.Bytes.{le, ofLe}
 use Rattle.records.specs.Header.{classOf}
 use Rattle.tables.proofs.LoopLaws.{sets-apart, sets-within, sets-zeros}
@@ -20,6 +21,7 @@ use Rattle.tables.specs.Sizes.{COLUMN-BITS}
 use Rattle.rules.specs.Rule.{Holds}
 use Rattle.rules.specs.Terms.{headerAt}
 use Rattle.rules.specs.Sound.{bitsRule, headerRule, lengthRule, senderRule, zeros}
+use Rattle.rules.proofs.Lists.Columns.{each-set, other, set-zero}
 
 -- ---- the bytes of a data entry
 abbrev pub bytesAt : List ℕ → ℕ → List ℕ
@@ -86,7 +88,7 @@ DataAt df sn ln vb p ages e =
     × ((getD vb e 0 ≡ 0 → ⊥) → ((headerAt p e ≡ 0) × (getD sn e 0 ≡ 0)) × ((getD ln e 0 ≤ PAYLOAD-MOST) × TailAt ln p e)))
 
 -- an entry of which nothing changed
-pub data-same : (df df′ sn sn′ ln ln′ vb vb′ p p′ ages : List ℕ) (e : ℕ) → free df′ e ≡ free df e → getD sn′ e 0 ≡ getD sn e 0 → getD ln′ e 0 ≡ getD ln e 0 →
+data-same : (df df′ sn sn′ ln ln′ vb vb′ p p′ ages : List ℕ) (e : ℕ) → free df′ e ≡ free df e → getD sn′ e 0 ≡ getD sn e 0 → getD ln′ e 0 ≡ getD ln e 0 →
     getD vb′ e 0 ≡ getD vb e 0 → bytesAt p′ e ≡ bytesAt p e → DataAt df sn ln vb p ages e → DataAt df′ sn′ ln′ vb′ p′ ages e
 data-same df df′ sn sn′ ln ln′ vb vb′ p p′ ages e f n m v b h =
     rw (f, n, m, v, header-same p p′ e b) (
@@ -105,6 +107,26 @@ pub record Wiped (p q : List ℕ) (d : ℕ) : Type 0 where
   pub blank : Holds (zeros q (ENTRY-BYTES * d) ENTRY-BYTES)
   pub apart : (e : ℕ) → eqb e d ≡ false → bytesAt q e ≡ bytesAt p e
 
+-- ---- data entry d is written, and its bus at most: every entry is sound
+module _ (df sn ln vb vb′ p q ages : List ℕ) (d : ℕ) (same : (e : ℕ) → eqb e d ≡ false → getD vb′ e 0 ≡ getD vb e 0) where
+  -- it is freed
+  pub datas-free : d / WORD-BITS < length df → Wiped p q d → (e : ℕ) → DataAt df sn ln vb p ages e → DataAt (released df d) (set sn d 0) (set ln d 0) vb′ q ages e
+  datas-free l w e h =
+      let f = released-same df d l in
+      each-set (DataAt (released df d) (set sn d 0) (set ln d 0) vb′ q ages) d e
+      (λ u. ((set-zero sn d, set-zero ln d), w .blank), λ u. true-false (free (released df d) d) f (not-true (free (released df d) d) u))
+      (λ r. data-same df (released df d) sn (set sn d 0) ln (set ln d 0) vb vb′ p q ages e
+      (released-other df d e (eqb-false e d r)) (other sn d 0 e r) (other ln d 0 e r) (same e r) (w .apart e r) h)
+
+  -- it is taken, and is itself sound
+  pub datas-take : (sender n : ℕ) → ((e : ℕ) → eqb e d ≡ false → bytesAt q e ≡ bytesAt p e) → DataAt (taken df d) (set sn d sender) (set ln d n) vb′ q ages d →
+      (e : ℕ) → DataAt df sn ln vb p ages e → DataAt (taken df d) (set sn d sender) (set ln d n) vb′ q ages e
+  datas-take sender n apart own e h =
+      each-set (DataAt (taken df d) (set sn d sender) (set ln d n) vb′ q ages) d e own
+      (λ r. data-same df (taken df d) sn (set sn d sender) ln (set ln d n) vb vb′ p q ages e
+      (taken-other df d e (eqb-false e d r)) (other sn d sender e r) (other ln d n e r) (same e r) (apart e r) h)
+
+-- ---- what is stored in an entry
 -- a payload area in which entry d, all zero before, holds a message, and nothing else changed
 pub record Written (p q : List ℕ) (d h : ℕ) (m : List ℕ) : Type 0 where
   pub long : length q ≡ length p

@@ -38,6 +38,13 @@ used-inside l i d = elim (decLt i (length l)) [ yes h ↦ h | no h ↦ absurd (d
 pub down : (a : ℕ) → suc a - 1 ≡ a
 down a = omega arith
 
+-- a word that is not 0 says b, one up, where it is b + 1
+pub one-up : (w b : ℕ) → (w ≡ 0 → ⊥) → eqb (w - 1) b ≡ eqb w (suc b)
+one-up w b n =
+    same-bool (eqb (w - 1) b) (eqb w (suc b))
+    (λ q. eq-eqb w (suc b) (omega (arith, n, eqb-true (w - 1) b q)))
+    (λ q. eq-eqb (w - 1) b (omega (arith, eqb-true w (suc b) q)))
+
 -- ---- lists
 -- what stands among those that pass stands in the list, and passes
 pub keep-in : (p : ℕ → Bool) (l : List ℕ) (e : ℕ) → 0 < occurs e (keep p l) → (0 < occurs e l) × (p e ≡ true)

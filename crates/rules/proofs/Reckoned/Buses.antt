@@ -11,7 +11,6 @@ use borrow.Author.Tests.{eqb-true, eqb-false, eq-eqb, ne-eqb, le-leb, leb-true, 
 use Rattle.ledger.specs.Call.Op.{bus, publish, read, subscribe, unsubscribe}
 use Rattle.ledger.specs.Ledger.{Ledger, Value}
 use Rattle.ledger.specs.Lists.{butFirst, those}
-use Rattle.ledger.specs.Reckon
 use Rattle.ledger.specs.Reckon.{busMade, endReaders, entered, evicted, joined, reading}
 use Rattle.ledger.specs.Room
 use Rattle.ledger.specs.Room.{datasLeft, heard, isReader, seatsFull}
@@ -28,7 +27,8 @@ use Rattle.tables.specs.Limits.{MOST-BUSES, MOST-SEATS, PAYLOAD-MOST}
 use Rattle.tables.specs.State.{State, at, head, poke, with-col}
 use Rattle.rules.specs.Actions.{dataFor}
 use Rattle.rules.specs.Agrees.{Agrees, busAt, readerAt, upTo, valueSaid, valuesIn}
-use Rattle.rules.specs.Buses.{broadcast, busFull, evict, inSeat, isBus, isOn, isUnread, makeBus, oldestOn, oldestUnread, readOff, seatAt, seatFor, seatOf, sitDown, sits, standUp, unreadLength, valueAt}
+use Rattle.rules.specs.Buses.{broadcast, busFull, evict, inSeat, isOn, isUnread, makeBus, oldestOn}
+use Rattle.rules.specs.Buses.{oldestUnread, readOff, seatAt, seatFor, seatOf, sitDown, sits, standUp, unreadLength, valueAt}
 use Rattle.rules.specs.Calls.{entry}
 use Rattle.rules.specs.Run.{say}
 use Rattle.rules.specs.Good.{Good}
@@ -38,33 +38,31 @@ use Rattle.rules.proofs.Frames.Buses.{wrote-makeBus}
 use Rattle.rules.proofs.Guards.{Passed, fourth-passed, second-passed, third-passed}
 use Rattle.rules.proofs.Kept.Buses.{publish-keeps}
 use Rattle.rules.proofs.Kept.Clauses.{buses-fit, read-back, seat-below, seats-fit}
-use Rattle.rules.proofs.Kept.Owners.{occurs-column, upTo-exact}
-use Rattle.rules.proofs.Kept.Seats.{sits-bus, sits-seat, sits-there}
+use Rattle.rules.proofs.Kept.Owners.{occurs-column}
+use Rattle.rules.proofs.Kept.Row.{value-there, values-at, values-listed, values-long}
+use Rattle.rules.proofs.Kept.Seats.{bus-there, seat-there, sits-bus, sits-seat, sits-there}
 use Rattle.rules.proofs.Kept.Values.{evict-free, evict-keeps, oldest-there}
 use Rattle.rules.proofs.Lists.Columns.{other}
-use Rattle.rules.proofs.Lists.Values.{map-without, occurs-those}
-use Rattle.rules.proofs.Reckoned.Ledger.{but-map, datas-left, first-at, full-same, idle-same, runner-alive, running-is, those-map, those-keep}
+use Rattle.rules.proofs.Lists.Ties.{one-up}
+use Rattle.rules.proofs.Lists.Values.{map-without, occurs-map, upTo-exact}
+use Rattle.rules.proofs.Reckoned.Ledger.{but-map, datas-left, first-at, full-same, idle-same, runner-alive, running-is, those-map}
 use Rattle.rules.proofs.Reckoned.Parts.{agrees-buses, living}
 use Rattle.rules.proofs.Reckoned.Pools.{things-begin}
-use Rattle.rules.proofs.Reckoned.Readers.{one-up, runner-up, subscribed-same}
-use Rattle.rules.proofs.Reckoned.Reads.{oldest-is, oldest-none, unread-long}
-pub use Rattle.rules.proofs.Reckoned.Readers.{leaveBuses-agrees, sitDown-agrees, standUp-agrees}
-pub use Rattle.rules.proofs.Reckoned.Reads.{readOff-agrees}
-pub use Rattle.rules.proofs.Reckoned.Values.{aired-agrees, issue-agrees, retire-agrees}
-use Rattle.rules.proofs.Reckoned.Values.{bus-is, buses-long, value-stands, value-used, values-at, values-listed, values-long}
+use Rattle.rules.proofs.Reckoned.Readers.{runner-up, sitDown-agrees, standUp-agrees, subscribed-same}
+use Rattle.rules.proofs.Reckoned.Reads.{oldest-is, oldest-none, readOff-agrees, unread-long}
+use Rattle.rules.proofs.Reckoned.Values.{bus-is, buses-long, issue-agrees, retire-agrees}
 
 -- ---- a bus that is full
 module _ (k : Caps) (l : Ledger) (s : State) (g : Good k s) (r : Agrees k l s) (b : ℕ) (made : b < head s BUSES) where
   -- there are as many values of a bus
   values-of : length (those (λ v. eqb (v .bus) b) (l .buses .values)) ≡ occurs (suc b) (s VALUE-BUS)
   values-of =
-      rw (r .buses .values, those-map (λ v. eqb (v .bus) b) (valueSaid s (r .buses .rank)) (valuesIn s), length-map (keep (λ d. eqb (at s VALUE-BUS d - 1) b) (valuesIn s)) (valueSaid s (r .buses .rank)))
-      (ap length (sym (those-keep (λ d. eqb (at s VALUE-BUS d - 1) b) (valuesIn s)))
-      ∙ sym (occurs-those (λ d. at s VALUE-BUS d - 1) b (valuesIn s))
-      ∙ occurs-column b (s VALUE-BUS) (valuesIn s) (values-listed k s g))
+      rw (r .buses .values, those-map (λ v. eqb (v .bus) b) (valueSaid s (r .buses .rank)) (valuesIn s))
+      (length-map (keep (λ d. eqb (at s VALUE-BUS d - 1) b) (valuesIn s)) (valueSaid s (r .buses .rank))
+      ∙ sym (occurs-map b (λ d. at s VALUE-BUS d - 1) (valuesIn s)) ∙ occurs-column b (s VALUE-BUS) (valuesIn s) (values-listed k s g))
 
   -- it has all that it can have
-  pub full-bus : busFull s b ≡ Room.busFull l b
+  full-bus : busFull s b ≡ Room.busFull l b
   full-bus = rw (bus-is k l s g r b made, values-of)
 
   -- the reckoning without its oldest
@@ -74,7 +72,7 @@ module _ (k : Caps) (l : Ledger) (s : State) (g : Good k s) (r : Agrees k l s) (
       let f = valueSaid s (r .buses .rank) in
       let p : ℕ → Bool = λ d. eqb (at s VALUE-BUS d - 1) b in
       let on : (i : ℕ) → i < head s ISSUED → p (getD (valuesIn s) i 0) ≡ isOn s b i = λ i m.
-      ap p (values-at k s g i m) ∙ one-up (at s VALUE-BUS (valueAt s i)) b (value-used k s g (valueAt s i) (value-stands k s g i m) .0) in
+      ap p (values-at k s g i m) ∙ one-up (at s VALUE-BUS (valueAt s i)) b (value-there k s g i m) in
       rw (r .buses .values) (but-map (λ v. eqb (v .bus) b) f (valuesIn s)
       ∙ ap (map f) (first-at p (valuesIn s) j (omega (arith, values-long k s g)) (on j h ∙ lowest-at (isOn s b) (head s ISSUED) h)
       (λ i m. on i (omega arith) ∙ lowest-first (isOn s b) (head s ISSUED) i m) .1)
@@ -102,7 +100,7 @@ publish-same b payload k s l g r = (
       ap (λ (n : ℕ). not (ltb b n)) (sym (buses-long k l s g r)),
       refl,
       λ u. (
-        ap₂ (λ (x : Bool) (y : Bool). not x && y) (full-bus k l s g r b (ltb-true b (head s BUSES) (not-false (isBus s b) u)))
+        ap₂ (λ (x : Bool) (y : Bool). not x && y) (full-bus k l s g r b (bus-there s b u))
             (full-same (free (s DATA-FREE)) (k .datas) (datasLeft l) (datas-left k s g l r)),
         refl,
         λ z. record {},
@@ -116,7 +114,7 @@ pub publish-agrees : (b : ℕ) (payload : List ℕ) → Agreed (publish b payloa
 unfolding entered broadcast
 publish-agrees b payload k s l g r p =
     let u = evict s b in
-    let made = ltb-true b (head s BUSES) (not-false (isBus s b) (third-passed p)) in
+    let made = bus-there s b (third-passed p) in
     let f = evict-free k s g b made (fourth-passed p) in
     issue-agrees k u (evict-keeps k s g b made) (dataFor k u) f (lowest-at (free (u DATA-FREE)) (k .datas) f) b payload (ltb-false PAYLOAD-MOST (length payload) (second-passed p))
     (publish-keeps b payload k s g p) (evicted b l) (evict-agrees k l s g r b made)
@@ -130,11 +128,11 @@ module _ (k : Caps) (l : Ledger) (s : State) (g : Good k s) (r : Agrees k l s) w
         let seats = r .buses .seats in
         let p : ℕ → Bool = λ i. eqb (i / MOST-SEATS) b in
         let q : ℕ → Bool = λ i. eqb (i % MOST-SEATS) n in
-        occurs-those (λ i. i % MOST-SEATS) n (keep p seats) ∙ ap length (those-keep q (keep p seats)) ∙ ap length (keep-keep q p seats)
+        occurs-map n (λ i. i % MOST-SEATS) (keep p seats) ∙ ap length (keep-keep q p seats)
         ∙ split (ltb n MOST-SEATS)
         (λ h. let m = ltb-true n MOST-SEATS h in
         rw (h, keep-same-on (λ i. p i && q i) (λ i. eqb i (seatAt b n)) seats (λ i o. one-seat i n m))
-        (ap length (sym (those-keep (λ i. eqb i (seatAt b n)) seats)) ∙ sym (occurs-those (λ i. i) (seatAt b n) seats) ∙ rw (map-id seats) (r .buses .allSeats (seatAt b n))))
+        (sym (occurs-map (seatAt b n) (λ i. i) seats) ∙ rw (map-id seats) (r .buses .allSeats (seatAt b n))))
         (λ h. let m = ltb-false n MOST-SEATS h in
         rw (h, keep-none-on (λ i. p i && q i) seats (λ i o. rw (ne-eqb (i % MOST-SEATS) n (λ z. omega arith)) (and-false (p i)))))
       where
@@ -165,7 +163,7 @@ module _ (k : Caps) (l : Ledger) (s : State) (g : Good k s) (r : Agrees k l s) w
             (λ q. rw q)
 
     -- it has all the subscribers that it can have
-    pub full-seats : not (ltb (seatFor s b) (at s BUS-SEATS b)) ≡ seatsFull l b
+    full-seats : not (ltb (seatFor s b) (at s BUS-SEATS b)) ≡ seatsFull l b
     full-seats =
         let n = length (those (λ x. eqb (x .bus) b) (l .buses .readers)) in
         let m = at s BUS-SEATS b in
@@ -183,7 +181,7 @@ subscribe-same b k s l g r = (
     λ q. (
       ap (λ (n : ℕ). not (ltb b n)) (sym (buses-long k l s g r)),
       refl,
-      λ u. (full-seats k l s g r b (ltb-true b (head s BUSES) (not-false (isBus s b) u)), refl, λ z. record {}),
+      λ u. (full-seats k l s g r b (bus-there s b u), refl, λ z. record {}),
     ),
   ),
 )
@@ -193,11 +191,10 @@ pub subscribe-agrees : (b : ℕ) → Agreed (subscribe b)
 unfolding entered
 subscribe-agrees b k s l g r p =
     let n = seatFor s b in
-    let made = ltb-true b (head s BUSES) (not-false (isBus s b) (third-passed p)) in
-    let nl = ltb-true n (at s BUS-SEATS b) (not-false (ltb n (at s BUS-SEATS b)) (fourth-passed p)) in
-    let empty = eqb-true (inSeat s b n) 0 (lowest-at (λ n. eqb (inSeat s b n) 0) (at s BUS-SEATS b) nl) in
+    let made = bus-there s b (third-passed p) in
+    let (nl, empty) = seat-there s b (fourth-passed p) in
     subst (λ (id : ℕ). Agrees k (joined b id l) (sitDown s b n (runner s))) (sym (running-is k s g l r (p .0)))
-    (subst (λ (a : ℕ). Agrees k (joined b (runnerId s) l) (sitDown s b n a)) (runner-up k l s g r (p .0))
+    (subst (λ (a : ℕ). Agrees k (joined b (runnerId s) l) (sitDown s b n a)) (runner-up s (p .0))
     (sitDown-agrees k l s g r b n (runner s - 1) (omega (arith, buses-fit g)) (omega (arith, seats-fit g b)) empty))
 
 -- its tests are the reckoning's
@@ -212,7 +209,7 @@ unsubscribe-agrees b k s l g r p =
     let there = not-false (sits s b (runner s)) (second-passed p) in
     subst (λ (id : ℕ). Agrees k (endReaders (isReader b id) l) (standUp k s b n)) (sym (running-is k s g l r (p .0)))
     (standUp-agrees k l s g r b n (sits-bus s b (runner s) there k g (eqb-false (runner s) 0 (p .0))) (sits-seat s b (runner s) there) (runner s - 1)
-    (runner-alive k s g (p .0)) (sits-there s b (runner s) there ∙ sym (runner-up k l s g r (p .0))))
+    (runner-alive k s g (p .0)) (sits-there s b (runner s) there ∙ sym (runner-up s (p .0))))
 
 -- ---- a bus is made
 -- its tests are the reckoning's
@@ -247,13 +244,26 @@ bus-agrees entries subscribers reads age k s l g r p =
     })
 
 -- ---- read
+-- the oldest value that the running actor has not read
+module _ (k : Caps) (l : Ledger) (s : State) (g : Good k s) (r : Agrees k l s) (b : ℕ) (h : eqb (runner s) 0 ≡ false) where
+  -- the reckoning's, where there is one
+  run-oldest : oldestUnread s b (runner s) < head s ISSUED → Room.oldestUnread l b ≡ valueSaid s (r .buses .rank) (valueAt s (oldestUnread s b (runner s))) ∷ []
+  run-oldest =
+      subst (λ (w : ℕ). oldestUnread s b w < head s ISSUED → Room.oldestUnread l b ≡ valueSaid s (r .buses .rank) (valueAt s (oldestUnread s b w)) ∷ []) (runner-up s h)
+      (oldest-is k l s g r b (runner s - 1) (runner-alive k s g h) (running-is k s g l r h))
+
+  -- and where there is none
+  run-none : head s ISSUED ≤ oldestUnread s b (runner s) → Room.oldestUnread l b ≡ []
+  run-none =
+      subst (λ (w : ℕ). head s ISSUED ≤ oldestUnread s b w → Room.oldestUnread l b ≡ []) (runner-up s h) (oldest-none k l s g r b (runner s - 1) (runner-alive k s g h) (running-is k s g l r h))
+
 -- its tests are the reckoning's
 pub read-same : (b room : ℕ) → Tested (read b room)
 read-same b room k s l g r = (
   idle-same k s g l r,
   refl,
   λ h. (
-    ap (ltb room) (ap (unreadLength s b) (sym (runner-up k l s g r h)) ∙ unread-long k l s g r b (runner s - 1) (runner-alive k s g h) (running-is k s g l r h)),
+    ap (ltb room) (ap (unreadLength s b) (sym (runner-up s h)) ∙ unread-long k l s g r b (runner s - 1) (runner-alive k s g h) (running-is k s g l r h)),
     refl,
     λ q. (ap not (subscribed-same k l s g r b h), refl, λ z. record {}),
   ),
@@ -267,16 +277,14 @@ read-agrees b room k s l g r p =
     let a = runner s - 1 in
     let n = seatOf s b (runner s) in
     let j = oldestUnread s b (runner s) in
-    let up = runner-up k l s g r h in
+    let up = runner-up s h in
     let there = runner-alive k s g h in
     let run = running-is k s g l r h in
     let sit = not-false (sits s b (runner s)) (third-passed p) in
     let low : oldestUnread s b (runner s) ≡ lowest (isUnread s b n) (head s ISSUED) = rw sit in
     split (ltb j (head s ISSUED))
     (λ q. let jl = ltb-true j (head s ISSUED) q in
-    let old : Room.oldestUnread l b ≡ valueSaid s (r .buses .rank) (valueAt s j) ∷ [] =
-    subst (λ (w : ℕ). oldestUnread s b w < head s ISSUED → Room.oldestUnread l b ≡ valueSaid s (r .buses .rank) (valueAt s (oldestUnread s b w)) ∷ []) up (oldest-is k l s g r b a there run) jl in
-    rw q (subst (λ (vs : List Value). Agrees k (reading b (l .people .running) vs l) (readOff s b n j)) (sym old)
+    rw q (subst (λ (vs : List Value). Agrees k (reading b (l .people .running) vs l) (readOff s b n j)) (sym (run-oldest k l s g r b h jl))
     (subst (λ (id : ℕ). Agrees k (reading b id (valueSaid s (r .buses .rank) (valueAt s j) ∷ []) l) (readOff s b n j)) (sym run)
     (readOff-agrees k l s g r b n a j there (sits-bus s b (runner s) sit k g (eqb-false (runner s) 0 h)) (sits-seat s b (runner s) sit) (sits-there s b (runner s) sit ∙ sym up) jl
     (subst (λ (i : ℕ). i < head s ISSUED → isUnread s b n i ≡ true) (sym low) (lowest-at (isUnread s b n) (head s ISSUED)) jl)
@@ -287,13 +295,7 @@ read-agrees b room k s l g r p =
 pub read-answers : (b room : ℕ) (k : Caps) (s : State) (l : Ledger) → Good k s → Agrees k l s → Passed (entry (read b room) .tests k s) →
     say (entry (read b room) .shape) (entry (read b room) .work k s .ans) ≡ heard (Room.oldestUnread l b)
 read-answers b room k s l g r p =
-    let h = p .0 in
-    let a = runner s - 1 in
-    let up = runner-up k l s g r h in
-    let there = runner-alive k s g h in
-    let run = running-is k s g l r h in
     let j = oldestUnread s b (runner s) in
     split (ltb j (head s ISSUED))
-    (λ q. rw q (sym (ap heard (subst (λ (w : ℕ). oldestUnread s b w < head s ISSUED → Room.oldestUnread l b ≡ valueSaid s (r .buses .rank) (valueAt s (oldestUnread s b w)) ∷ []) up
-    (oldest-is k l s g r b a there run) (ltb-true j (head s ISSUED) q)))))
-    (λ q. rw q (sym (ap heard (subst (λ (w : ℕ). head s ISSUED ≤ oldestUnread s b w → Room.oldestUnread l b ≡ []) up (oldest-none k l s g r b a there run) (ltb-false j (head s ISSUED) q)))))
+    (λ q. rw q (sym (ap heard (run-oldest k l s g r b (p .0) (ltb-true j (head s ISSUED) q)))))
+    (λ q. rw q (sym (ap heard (run-none k l s g r b (p .0) (ltb-false j (head s ISSUED) q)))))

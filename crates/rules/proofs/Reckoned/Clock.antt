@@ -25,7 +25,6 @@ use Rattle.rules.proofs.Claims.{Agreed, Counted, Keeps, Tested}
 use Rattle.rules.proofs.Reckoned.Firing.{due-less, firings-due, firings-less}
 use Rattle.rules.specs.Good.{Good, Late, atClock}
 use Rattle.rules.proofs.Guards.{Passed, first-passed}
-use Rattle.rules.proofs.Kept.Buses.{aired-keeps}
 use Rattle.rules.proofs.Kept.Clauses.{timer-owner-lives}
 use Rattle.rules.proofs.Reckoned.Values.{aired-agrees}
 use Rattle.rules.proofs.Reckoned.Ledger.{room-none, room-some}
@@ -33,6 +32,7 @@ use Rattle.rules.proofs.Kept.Messages.{post-keeps, tick-fine}
 use Rattle.rules.proofs.Reckoned.Messages.{post-agrees}
 use Rattle.rules.proofs.Reckoned.Rearm.{due-most, due-none, least-due, once-there, rearm-agrees, soonest-some}
 use Rattle.rules.proofs.Kept.Clock.{advance-clock-agrees, clock-keeps, clock-read, clockAt, late-agrees, late-sized, late-then, late-back, clock-post, post-clock, rearm-late, rouse-agrees, rouse-keeps}
+use Rattle.rules.proofs.Kept.Values.{aired-keeps}
 use Rattle.rules.proofs.Frames.Actions.{room-still, wrote-rearm}
 
 -- ---- one step of firing, and none

@@ -3,110 +3,82 @@ use Prim.Native.Nat.{ℕ, zero, suc, _+_, _≤_, _<_}
 use native.Mathlib.Omega.{arith}
 use mathlib.Core.Path.{_≡_, refl, sym, ap, subst, _∙_}
 use mathlib.Core.Bool.{Bool, true, false, cond, not, _&&_, _||_}
-use mathlib.Core.List.{List, [], _∷_, _++_, map}
+use mathlib.Core.List.{List, [], _∷_, map}
 use lib.ListN.{length, getD}
 use lib.Dec.{eqb, leb}
 use borrow.Author.Tests.{eqb-true, leb-true, not-true}
 use Rattle.ledger.specs.Call.{Answer, Call, Line, Op, found, number, idTold}
 use Rattle.ledger.specs.Call.Found.{nothing}
 use Rattle.ledger.specs.Call.Call.{start, op}
-use Rattle.ledger.specs.Call.Op.{spawn, next, yield, notify, receive, show, shown, after, every, cancel, link, unlink, monitor, demonitor, exit, advance, report, bus, publish, subscribe, unsubscribe, read}
+use Rattle.ledger.specs.Call.Op.{spawn, next, yield, notify, receive, show, shown, after, every, cancel, link, unlink, monitor, demonitor, exit, advance, report}
+use Rattle.ledger.specs.Call.Op.{bus, publish, subscribe, unsubscribe, read}
 use Rattle.ledger.specs.Ledger.{Buses, Ledger, Reader, Timer, Value}
-use Rattle.ledger.specs.Lists.{first, some, those}
-use Rattle.ledger.specs.Reckon.{aired, busMade, cleared, departed, emptyHanded, endLinks, endMonitors, endReaders, endTimers, entered, evicted, fires, firing, firings, gone, issued, joined, later, leaf, linked, moved, page, pickedUp, reading, rearmed, reckon, sent, soonest, tick}
+use Rattle.ledger.specs.Lists.{first, some}
+use Rattle.ledger.specs.Reckon.{aired, busMade, cleared, departed, emptyHanded, endLinks, endMonitors, endReaders, endTimers, entered, evicted, fires, firing, firings}
+use Rattle.ledger.specs.Reckon.{gone, issued, joined, later, linked, moved, page, pickedUp, reading, rearmed, reckon, sent, soonest, tick}
 use Rattle.ledger.specs.Room.{busFull, isReader, oldestUnread, unread}
 use Rattle.pools.proofs.BoolLaws.{and-left, and-right, neither, split, true-false}
 use Rattle.rules.specs.Agrees.{Ascending}
 use Rattle.rules.specs.Story.{begins, line, startless}
 use Rattle.rules.proofs.Frames.Wrote.{All}
+use Rattle.rules.proofs.Lists.Each.{all-any, all-both, all-first, all-map, all-read, all-some, all-then, all-those, all-passing}
 
--- ---- something is so of each of a list
-module _ {A : Type 0} (P : A → Type 0) where
-  -- of the list and one more
-  pub all-more : (xs : List A) (y : A) → All P xs → P y → All P (xs ++ (y ∷ []))
-  all-more [] y h q = (q, tt)
-  all-more (x ∷ xs) y h q = (h .0, all-more xs y (h .1) q)
+-- ---- THE MARK
+-- if the subscription is that of `id` to bus b, its cursor is n or further on
+abbrev pub Further : (n b id : ℕ) → Reader → Type 0
+Further n b id x = isReader b id x ≡ true → n ≤ x .cursor
 
-  -- of those that pass
-  all-those : (p : A → Bool) (xs : List A) → All P xs → All P (those p xs)
-  unfolding those
-  all-those p [] h = tt
-  all-those p (x ∷ xs) h = split (p x) (λ q. rw q (h .0, all-those p xs (h .1))) (λ q. rw q (all-those p xs (h .1)))
-
-  -- of the first that passes
-  pub all-first : (p : A → Bool) (xs : List A) → All P xs → All P (first p xs)
-  unfolding first
-  all-first p [] h = tt
-  all-first p (x ∷ xs) h = split (p x) (λ q. rw q (h .0, tt)) (λ q. rw q (all-first p xs (h .1)))
-
-  -- of others made of them
-  all-map : (f : A → A) (xs : List A) → ((x : A) → P x → P (f x)) → All P xs → All P (map f xs)
-  all-map f [] g h = tt
-  all-map f (x ∷ xs) g h = (g x (h .0), all-map f xs g (h .1))
-
-  -- of one that passes
-  all-some : (p : A → Bool) (xs : List A) → All P xs → some p xs ≡ true → (x : A) × P x × (p x ≡ true)
-  unfolding some
-  all-some p [] h e = true-false false e refl
-  all-some p (x ∷ xs) h e = split (p x) (λ q. (x, h .0, q)) (λ q. all-some p xs (h .1) (rw q at e))
-
--- the first that passes does
-first-passes : {A : Type 0} {P : A → Type 0} (p : A → Bool) (xs : List A) → ((x : A) → p x ≡ true → P x) → All P (first p xs)
-unfolding first
-first-passes p [] h = tt
-first-passes p (x ∷ xs) h = split (p x) (λ q. rw q (h x q, tt)) (λ q. rw q (first-passes p xs h))
-
--- ---- THE MARK: on bus b, whatever subscription `id` has, its cursor is n or further on; and n were published
+-- so it is with every subscription; and n were published
 abbrev pub Beyond : (n b id : ℕ) → Buses → Type 0
-Beyond n b id u = All (λ (x : Reader). isReader b id x ≡ true → n ≤ x .cursor) (u .readers) × (n ≤ u .published)
+Beyond n b id u = All (Further n b id) (u .readers) × (n ≤ u .published)
 
 -- what one may still read is not behind its cursor
 pub unread-beyond : (n b id : ℕ) (l : Ledger) → l .people .running ≡ id → Beyond n b id (l .buses) → All (λ (v : Value). n ≤ v .rank) (oldestUnread l b)
 unfolding oldestUnread
 unread-beyond n b id l e h =
     let own : Value → Bool = λ v. some (λ x. isReader b (l .people .running) x && unread x v) (l .buses .readers) in
-    first-passes own (l .buses .values) (λ v q.
-    let (x, m, y) = all-some (λ x. isReader b id x ≡ true → n ≤ x .cursor) (λ x. isReader b (l .people .running) x && unread x v) (l .buses .readers) (h .0) q in
+    all-passing (λ v. n ≤ v .rank) own (l .buses .values) (λ v q.
+    let (x, m, y) = all-some (Further n b id) (λ x. isReader b (l .people .running) x && unread x v) (l .buses .readers) (h .0) q in
     let i = and-left (isReader b (l .people .running) x) (unread x v) y in
     let u = and-right (isReader b (l .people .running) x) (unread x v) y in
     omega (arith, m (subst (λ (j : ℕ). isReader b j x ≡ true) e i), leb-true (x .cursor) (v .rank) (and-right (eqb (v .bus) (x .bus)) (leb (x .cursor) (v .rank)) u)))
 
 -- ---- timers that fire leave the buses alone
+-- one that is armed again, or ends
 rearmed-buses : (l : Ledger) (t : Timer) → rearmed l t .buses ≡ l .buses
 unfolding rearmed endTimers
 rearmed-buses l t = split (eqb (t .interval) 0) (λ q. rw q) (λ q. rw q)
 
+-- those that fire at one time
 firing-buses : (ts : List Timer) (l : Ledger) → firing ts l .buses ≡ l .buses
 unfolding firing
 firing-buses [] l = refl
 firing-buses (t ∷ ts) l = firing-buses ts (sent (tick t ∷ []) (rearmed l t)) ∙ rearmed-buses l t
 
-pub fires-buses : (n : ℕ) (l : Ledger) → fires n l .buses ≡ l .buses
+-- all that fire
+fires-buses : (n : ℕ) (l : Ledger) → fires n l .buses ≡ l .buses
 unfolding fires
 fires-buses zero l = refl
 fires-buses (suc n) l = let ts = soonest (l .time .clock) (l .time .timers) in fires-buses n (firing ts l) ∙ firing-buses ts l
 
 -- ---- call by call
 module _ (n b id : ℕ) where
-  -- what is so of each subscription
-  abbrev OWN : Reader → Type 0
-  OWN x = isReader b id x ≡ true → n ≤ x .cursor
-
   -- these are read by that one: its cursor passes them, and they were not behind n
   reading-beyond : (c me : ℕ) (vs : List Value) (l : Ledger) → (c ≡ b → me ≡ id → All (λ (v : Value). n ≤ v .rank) vs) → Beyond n b id (l .buses) →
       Beyond n b id (reading c me vs l .buses)
   unfolding reading
   reading-beyond c me [] l g h = h
-  reading-beyond c me (v ∷ vs) l g h = (
-    all-map OWN (λ x. cond (isReader c me x) (moved (v .rank) x) x) (l .buses .readers) (λ x o.
-        split (isReader c me x)
-        (λ q. rw q (λ i.
-        let e : c ≡ b = sym (eqb-true (x .bus) c (and-left (eqb (x .bus) c) (eqb (x .who) me) q)) ∙ eqb-true (x .bus) b (and-left (eqb (x .bus) b) (eqb (x .who) id) i) in
-        let f : me ≡ id = sym (eqb-true (x .who) me (and-right (eqb (x .bus) c) (eqb (x .who) me) q)) ∙ eqb-true (x .who) id (and-right (eqb (x .bus) b) (eqb (x .who) id) i) in
-        omega (arith, g e f .0)))
-        (λ q. rw q o)) (h .0),
-    h .1,
-  )
+  reading-beyond c me (v ∷ vs) l g h =
+      let pass : Reader → Reader = λ x. cond (isReader c me x) (moved (v .rank) x) x in (
+        all-map (Further n b id) pass (Further n b id) (l .buses .readers) (λ x o.
+            split (isReader c me x)
+            (λ q. rw q (λ i.
+            let e : c ≡ b = sym (eqb-true (x .bus) c (and-left (eqb (x .bus) c) (eqb (x .who) me) q)) ∙ eqb-true (x .bus) b (and-left (eqb (x .bus) b) (eqb (x .who) id) i) in
+            let f : me ≡ id = sym (eqb-true (x .who) me (and-right (eqb (x .bus) c) (eqb (x .who) me) q)) ∙ eqb-true (x .who) id (and-right (eqb (x .bus) b) (eqb (x .who) id) i) in
+            omega (arith, g e f .0)))
+            (λ q. rw q o)) (h .0),
+        h .1,
+      )
 
   -- a page: where the call was done, and where it found nothing
   page-beyond : (o : Op) (r m : ℕ) (l : Ledger) → Beyond n b id (l .buses) → Beyond n b id (page o .done r l .buses) × Beyond n b id (page o .unmet m l .buses)
@@ -125,13 +97,13 @@ module _ (n b id : ℕ) where
   page-beyond (unlink x) r m l h = (h, h)
   page-beyond (monitor x) r m l h = (h, h)
   page-beyond (demonitor x) r m l h = (h, h)
-  page-beyond (exit x) r m l h = ((all-those OWN _ (l .buses .readers) (h .0), h .1), h)
+  page-beyond (exit x) r m l h = ((all-those (Further n b id) _ (l .buses .readers) (h .0), h .1), h)
   page-beyond (advance x) r m l h = (rw (fires-buses (firings (later x l)) (later x l)) h, h)
   page-beyond report r m l h = (h, h)
   page-beyond (bus x y z u) r m l h = (h, h)
   page-beyond (publish x y) r m l h = (split (busFull l x) (λ q. rw q (h .0, omega (arith, h .1))) (λ q. rw q (h .0, omega (arith, h .1))), h)
-  page-beyond (subscribe x) r m l h = ((all-more OWN (l .buses .readers) _ (h .0) (λ q. h .1), h .1), h)
-  page-beyond (unsubscribe x) r m l h = ((all-those OWN _ (l .buses .readers) (h .0), h .1), h)
+  page-beyond (subscribe x) r m l h = ((all-both (Further n b id) (l .buses .readers) (_ ∷ []) (h .0) (λ q. h .1, tt), h .1), h)
+  page-beyond (unsubscribe x) r m l h = ((all-those (Further n b id) _ (l .buses .readers) (h .0), h .1), h)
   page-beyond (read x y) r m l h = (
     reading-beyond x (l .people .running) (oldestUnread l x) l
         (λ e f. subst (λ (c : ℕ). All (λ (v : Value). n ≤ v .rank) (oldestUnread l c)) (sym e) (unread-beyond n b id l f h)) h,
@@ -156,7 +128,7 @@ module _ (n b id : ℕ) where
 
 -- ---- where a mark is set
 -- where there is no subscription of that one to that bus, its cursor is anywhere
-unread-anywhere : (n b id : ℕ) (xs : List Reader) → some (isReader b id) xs ≡ false → All (λ (x : Reader). isReader b id x ≡ true → n ≤ x .cursor) xs
+unread-anywhere : (n b id : ℕ) (xs : List Reader) → some (isReader b id) xs ≡ false → All (Further n b id) xs
 unfolding some
 unread-anywhere n b id [] e = tt
 unread-anywhere n b id (x ∷ xs) e =
@@ -166,56 +138,40 @@ unread-anywhere n b id (x ∷ xs) e =
 pub joined-beyond : (b id : ℕ) (l : Ledger) → some (isReader b id) (l .buses .readers) ≡ false → Beyond (l .buses .published) b id (joined b id l .buses)
 unfolding joined
 joined-beyond b id l e = (
-  all-more (λ x. isReader b id x ≡ true → l .buses .published ≤ x .cursor) (l .buses .readers) _ (unread-anywhere (l .buses .published) b id (l .buses .readers) e) (λ q. omega arith),
+  all-both (Further (l .buses .published) b id) (l .buses .readers) (_ ∷ []) (unread-anywhere (l .buses .published) b id (l .buses .readers) e) (λ q. omega arith, tt),
   omega arith,
 )
 
 -- the cursor of one that has read is past what it read
 pub reading-passes : (b id : ℕ) (v : Value) (vs : List Value) (l : Ledger) → v .rank < l .buses .published → Beyond (v .rank + 1) b id (reading b id (v ∷ vs) l .buses)
 unfolding reading
-reading-passes b id v vs l h = (passes (l .buses .readers), omega arith)
-  where
-    passes : (xs : List Reader) → All (λ (x : Reader). isReader b id x ≡ true → v .rank + 1 ≤ x .cursor) (map (λ x. cond (isReader b id x) (moved (v .rank) x) x) xs)
-    passes [] = tt
-    passes (x ∷ xs) = (split (isReader b id x) (λ q. rw q (λ i. omega arith)) (λ q. rw q (λ i. true-false (isReader b id x) i q)), passes xs)
+reading-passes b id v vs l h =
+    let pass : Reader → Reader = λ x. cond (isReader b id x) (moved (v .rank) x) x in
+    let passed : (x : Reader) → Further (v .rank + 1) b id (pass x) = λ x.
+    split (isReader b id x) (λ q. rw q (λ i. omega arith)) (λ q. rw q (λ i. true-false (isReader b id x) i q)) in (
+      all-map (Further (v .rank + 1) b id) pass (λ x. Further (v .rank + 1) b id (pass x)) (l .buses .readers) (λ x y. y)
+          (all-any (λ x. Further (v .rank + 1) b id (pass x)) (l .buses .readers) passed),
+      omega arith,
+    )
 
 -- ---- ranks
--- each number is below all that come after it
-abbrev pub Rising : List ℕ → Type 0
-Rising [] = Unit
-Rising (n ∷ ns) = All (λ (m : ℕ). n < m) ns × Rising ns
-
--- as the tables have it, by their places
+-- a number that is below the word at each place of a list is below each of them
 above : (n : ℕ) (ns : List ℕ) → ((i : ℕ) → i < length ns → n < getD ns i 0) → All (λ (m : ℕ). n < m) ns
 above n [] h = tt
 above n (m ∷ ns) h = (h 0 (omega arith), above n ns (λ i q. h (suc i) (omega arith)))
 
-pub rising-of : (ns : List ℕ) → Ascending ns → Rising ns
-rising-of [] h = tt
-rising-of (n ∷ ns) h = (above n ns (λ i q. h 0 (suc i) (omega arith) (omega arith)), rising-of ns (λ i j p q. h (suc i) (suc j) (omega arith) (omega arith)))
-
--- of values: what is so of their ranks
-all-ranks : (n : ℕ) (vs : List Value) → All (λ (m : ℕ). n < m) (map (λ u. u .rank) vs) → All (λ (u : Value). n < u .rank) vs
-all-ranks n [] h = tt
-all-ranks n (v ∷ vs) h = (h .0, all-ranks n vs (h .1))
-
--- something is so of each of a list, and so another thing
-all-then : {A : Type 0} (P Q : A → Type 0) (xs : List A) → ((x : A) → P x → Q x) → All P xs → All Q xs
-all-then P Q [] f h = tt
-all-then P Q (x ∷ xs) f h = (f x (h .0), all-then P Q xs f (h .1))
-
--- of values whose ranks rise, one alone has the rank of the first that passes
-pub sole-rank : (p : Value → Bool) (vs : List Value) (v : Value) → Rising (map (λ u. u .rank) vs) → first p vs ≡ v ∷ [] → All (λ (u : Value). u .rank ≡ v .rank → u ≡ v) vs
+-- of values whose ranks ascend, one alone has the rank of the first that passes
+pub sole-rank : (p : Value → Bool) (vs : List Value) (v : Value) → Ascending (map (λ u. u .rank) vs) → first p vs ≡ v ∷ [] → All (λ (u : Value). u .rank ≡ v .rank → u ≡ v) vs
 unfolding first
 sole-rank p [] v h e = tt
 sole-rank p (x ∷ vs) v h e =
-    let later = all-ranks (x .rank) vs (h .0) in
+    let higher = all-read (λ m. x .rank < m) (λ u. u .rank) vs (above (x .rank) (map (λ u. u .rank) vs) (λ i q. h 0 (suc i) (omega arith) (omega arith))) in
     split (p x)
     (λ q. let i : x ≡ v = ap (λ (us : List Value). getD us 0 x) (rw q at e) in (
       λ z. i,
-      all-then (λ u. x .rank < u .rank) (λ u. u .rank ≡ v .rank → u ≡ v) vs (λ u g z. absurd (omega (arith, g, z, ap (λ (u : Value). u .rank) i))) later,
+      all-then (λ u. x .rank < u .rank) (λ u. u .rank ≡ v .rank → u ≡ v) vs (λ u g z. absurd (omega (arith, g, z, ap (λ (u : Value). u .rank) i))) higher,
     ))
     (λ q. let i : first p vs ≡ v ∷ [] = rw q at e in (
-      λ z. absurd (omega (arith, z, subst (λ (us : List Value). All (λ (u : Value). x .rank < u .rank) us) i (all-first (λ u. x .rank < u .rank) p vs later) .0)),
-      sole-rank p vs v (h .1) i,
+      λ z. absurd (omega (arith, z, subst (λ (us : List Value). All (λ (u : Value). x .rank < u .rank) us) i (all-first (λ u. x .rank < u .rank) p vs higher) .0)),
+      sole-rank p vs v (λ i j p q. h (suc i) (suc j) (omega arith) (omega arith)) i,
     ))

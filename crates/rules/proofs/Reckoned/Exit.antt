@@ -23,7 +23,6 @@ use Rattle.pools.proofs.PoolLaws.{lowest-first, lowest-same}
 use Rattle.pools.proofs.ListLaws.{keep-same-on}
 use Rattle.pools.proofs.ExactLaws.{exact-used}
 use Rattle.pools.proofs.SlotLaws.{slot-of-id}
-use Rattle.records.specs.Bytes
 use Rattle.records.specs.Header.{packed}
 use Rattle.records.specs.Records.{exitBytes}
 use Rattle.tables.specs.declared.Caps.{Caps}
@@ -36,7 +35,7 @@ use Rattle.rules.specs.Agrees.{Agrees, actorAt, linkAt, monitorAt}
 use Rattle.rules.specs.Actions.{hasRoom, post}
 use Rattle.rules.specs.Calls.{Told, cutLink, cutLinks, cutMonitor, cutMonitors, linkOf, missed, noticed, tell, tie, told, unwatch}
 use Rattle.rules.specs.Good.{Going, Good}
-use Rattle.rules.proofs.Reckoned.Ledger.{alive-slot, boxes-count, datas-count, actor-id-eqb, room-none, slot-map, those-map}
+use Rattle.rules.proofs.Reckoned.Ledger.{alive-slot, boxes-count, datas-count, room-none, slot-map, those-map}
 use Rattle.rules.proofs.Lists.Ties
 use Rattle.rules.proofs.Lists.Ties.{used-inside, below}
 use Rattle.rules.proofs.Ends.Steps.{Told-of}

@@ -15,8 +15,11 @@ use Rattle.ledger.specs.Reckon.{dueNow, endTimers, firedTimers, firing, firings
 use Rattle.ledger.specs.Room.{holdings, messagesLeft}
 use Rattle.pools.specs.Pool.{occurs}
 use Rattle.pools.proofs.BoolLaws.{split, true-false, and-left, and-right, and-true}
+use Rattle.rules.proofs.Lists.Each.{all-passing}
 use Rattle.rules.proofs.Lists.Notices.{some-those}
+use Rattle.rules.proofs.Reckoned.Ledger.{those-keep}
 use Rattle.rules.proofs.Reckoned.Pages.{order-out}
+use Rattle.rules.proofs.Lists.Values.{occurs-map}
 
 -- ---- those of a list, counted
 module _ {A : Type 0} where
@@ -43,10 +46,7 @@ module _ {A : Type 0} where
 
   -- the first that passes does pass
   first-passes : (p : A → Bool) (xs : List A) (x : A) → first p xs ≡ x ∷ [] → p x ≡ true
-  unfolding first
-  first-passes p [] x e = absurd (omega (arith, ap length e))
-  first-passes p (y ∷ ys) x e =
-      split (p y) (λ q. let z : y ≡ x = ap (λ (m : List A). getD m 0 y) (rw q at e) in ap p (sym z) ∙ q) (λ q. first-passes p ys x (rw q at e))
+  first-passes p xs x e = (rw e at (all-passing (λ y. p y ≡ true) p xs (λ y q. q))) .0
 
   -- where at most one passes another test, and the first does, it is the only one
   first-alone : (p q : A → Bool) (xs : List A) (x : A) → first p xs ≡ x ∷ [] → q x ≡ true → length (those q xs) ≤ 1 → those q xs ≡ x ∷ []
@@ -90,12 +90,6 @@ isId id t = eqb (t .id) id
 -- no two timers have one id
 abbrev pub Once : Ledger → Type 0
 Once l = (id : ℕ) → length (those (isId id) (l .time .timers)) ≤ 1
-
--- how often an id stands in a list of timers: as often as there are timers of that id
-occurs-those : (id : ℕ) (ts : List Timer) → occurs id (map (λ t. t .id) ts) ≡ length (those (isId id) ts)
-unfolding occurs those
-occurs-those id [] = refl
-occurs-those id (t ∷ ts) = split (eqb (t .id) id) (λ q. rw q (omega (arith, occurs-those id ts))) (λ q. rw q (omega (arith, occurs-those id ts)))
 
 -- ---- the timers of an id are due again
 -- the timers of an id with another due time
@@ -309,5 +303,5 @@ fired-all (suc n) l once h =
 -- THE LAW: where no two timers have one id, no timer fires twice in one advance
 pub fired-once : (n : ℕ) (l : Ledger) → Once l → (id : ℕ) → occurs id (map (λ t. t .id) (firedTimers n l)) ≤ 1
 fired-once n l once id =
-    rw (occurs-those id (firedTimers n l))
+    rw (occurs-map id (λ t. t .id) (firedTimers n l), sym (those-keep (isId id) (firedTimers n l)))
     (omega (arith, fired-few n l once id, ap length (order-out (isId id) (λ u. leb (u .due) (l .time .clock)) (l .time .timers)), those-most (λ u. leb (u .due) (l .time .clock)) (those (isId id) (l .time .timers)), once id))

@@ -196,10 +196,10 @@ module _ (k : Caps) (s : State) (g : Good k s) where
       ne-eqb (actorId s a) id (λ z.
       true-false (isActor s id) (ap (isActor s) (sym z) ∙ live-id ACTOR-FACTOR (s STATE) (s AGE) a (omega (arith, alive-slot a v, g .range .fewActors)) (of-alive (s STATE) a v)) n)
 
-  -- who sits in a seat
+  -- who sits in a seat in use
   pub seat-owner : (i : ℕ) → (at s SEAT i ≡ 0 → ⊥) → alive (s STATE) (at s SEAT i - 1) ≡ true
   seat-owner i h =
-      let m : i < MOST-BUSES * MOST-SEATS = omega (arith, alive-below (s SEAT) i (alive-of (s SEAT) i h), g .sized .words SEAT (lit< tt)) in
+      let m : i < MOST-BUSES * MOST-SEATS = omega (arith, Ties.used-inside (s SEAT) i h, g .sized .words SEAT (lit< tt)) in
       let e : seatAt (i / MOST-SEATS) (i % MOST-SEATS) ≡ i = omega arith in
       rw e at (seat-lives g (i / MOST-SEATS) (i % MOST-SEATS) (omega arith) (omega arith) (rw e h))
 
@@ -221,6 +221,14 @@ module _ (k : Caps) (s : State) (g : Good k s) where
     clock-owner i o =
         let u = listed-used (s TIMER-OWNER) (r .time .pool .slots) (k .timers) (g .sized .words TIMER-OWNER (lit< tt)) (r .time .pool .allSlots) i o in
         timer-owner-lives g i (u .1) (u .0)
+
+    -- a seat of the list is in use
+    pub seat-used : (i : ℕ) → 0 < occurs i (r .buses .seats) → at s SEAT i ≡ 0 → ⊥
+    seat-used = listed-in (s SEAT) (r .buses .seats) (r .buses .allSeats)
+
+    -- and one in use is of the list
+    pub used-seat : (i : ℕ) → (at s SEAT i ≡ 0 → ⊥) → 0 < occurs i (r .buses .seats)
+    used-seat i u = rw (r .buses .allSeats i, ne-eqb (at s SEAT i) 0 u) (omega arith)
 
     -- both ends of a link
     pub bond-ends : (e : ℕ) → 0 < occurs e (r .links .bonds) → (alive (s STATE) (at s LINK-ONE e - 1) ≡ true) × (alive (s STATE) (at s LINK-TWO e - 1) ≡ true)
@@ -340,7 +348,18 @@ module _ (k : Caps) (s : State) (g : Good k s) (l : Ledger) (r : Agrees k l s) w
   -- the data entries of the owners and the free ones are all data entries
   pub datas-count : total (holdings l) + count (free (s DATA-FREE)) (k .datas) ≡ l .sizes .datas
   datas-count =
-      rw (r .sizes, sym (length-map (l .mail .boxes) letter), sym (length-map (l .mail .hands) letter), r .mail .boxes, r .mail .hands, length-map (arrivals s) (boxAt s), length-map (r .mail .palms) (handAt s), r .buses .values, length-map (valuesIn s) (valueSaid s (r .buses .rank)), length-map (upTo (head s ISSUED)) (valueAt s))
+      rw (
+        r .sizes,
+        sym (length-map (l .mail .boxes) letter),
+        sym (length-map (l .mail .hands) letter),
+        r .mail .boxes,
+        r .mail .hands,
+        length-map (arrivals s) (boxAt s),
+        length-map (r .mail .palms) (handAt s),
+        r .buses .values,
+        length-map (valuesIn s) (valueSaid s (r .buses .rank)),
+        length-map (upTo (head s ISSUED)) (valueAt s),
+      )
       (omega (arith, bits-left (k .datas) (free (s DATA-FREE)) (named s (owners s (r .mail .palms))) (r .mail .allDatas), named-length s (owners s (r .mail .palms))))
 
   -- data entries

@@ -20,8 +20,8 @@ use Rattle.rules.specs.Agrees.{Agrees, BusesAgree, LinksAgree, MailAgree
 use Rattle.rules.specs.Buses.{valueAt, valueOf}
 use Rattle.rules.specs.Sound.{OWNERS}
 use Rattle.rules.proofs.Lists.Columns.{worn-alive}
+use Rattle.rules.proofs.Lists.Values.{upTo-exact}
 use Rattle.rules.proofs.Frames.Wrote.{Wrote, apart, apart-at, mem, mixed, mixed-is}
-use Rattle.rules.proofs.Kept.Owners.{upTo-exact}
 use Rattle.rules.proofs.Reckoned.Ledger.{listed-in, map-same-on}
 
 -- ---- what each part reads; the people read the states too, for who is alive alone
@@ -128,6 +128,7 @@ module _ {ws : List ℕ} {s t : State} (w : Wrote ws s t) where
         unread = r .unread;
       })
 
+  -- and where nothing that they read is written
   pub buses-same : {b : Buses} → apart OF-BUSES ws ≡ true → BusesAgree b s → BusesAgree b t
   buses-same e r =
       let same : (c : ℕ) → mem c OF-BUSES ≡ true → t c ≡ s c = λ c m. w .cols c (apart-at OF-BUSES ws e c m) in

@@ -1,5 +1,5 @@
 -- Slots with ages and the reckoning's things in them, over any pool: a use begins, uses end, what is left, and whose they are.
-use Prim.Native.Nat.{ℕ, _+_, _-_, _≤_, _<_}
+use Prim.Native.Nat.{ℕ, _≤_, _<_}
 use native.Mathlib.Omega.{arith}
 use mathlib.Core.Path.{_≡_, sym, ap, _∙_, fun-ext}
 use mathlib.Core.Bool.{Bool, false, cond, not, _&&_}

@@ -7,19 +7,18 @@ use mathlib.Core.List.{List, [], _∷_, _++_, map}
 use lib.ListN.{length, getD, set}
 use lib.Seq.{getD-set-same}
 use lib.Dec.{eqb, ltb, lit<}
-use borrow.Author.Tests.{eqb-true, eqb-false, eq-eqb, ne-eqb, ltb-true, ltb-false, lt-ltb, le-ltb, lt-leb}
+use borrow.Author.Tests.{eqb-true, eqb-false, eq-eqb, ne-eqb, lt-ltb, le-ltb, lt-leb}
 use Rattle.ledger.specs.Lists.{some, those}
 use Rattle.ledger.specs.Ledger.{Ledger, Reader}
 use Rattle.ledger.specs.Reckon.{endReaders, joined, withReaders}
 use Rattle.ledger.specs.Room.{isReader, subscribed}
-use Rattle.pools.specs.Pool.{occurs}
 use Rattle.pools.specs.Bits.{cleared}
 use Rattle.pools.specs.Lists.{keep}
 use Rattle.pools.specs.Slot.{idOf}
 use Rattle.pools.proofs.BoolLaws.{and-left, and-right, and-true, same-bool, split}
 use Rattle.pools.proofs.BitLaws.{cleared-other}
 use Rattle.pools.proofs.ListLaws.{keep-all-on, keep-keep, keep-same-on}
-use Rattle.pools.proofs.PoolLaws.{count-same, lowest-at, lowest-first}
+use Rattle.pools.proofs.PoolLaws.{count-same}
 use Rattle.tables.specs.declared.Caps.{Caps}
 use Rattle.tables.specs.Columns.{AGE, BUSES, LENGTH, PAYLOAD, PUBLISHED, READERS, SEAT, STATE, VALUE-BUS}
 use Rattle.tables.specs.Limits.{ACTOR-FACTOR, MOST-BUSES, MOST-SEATS}
@@ -29,113 +28,72 @@ use Rattle.rules.specs.Buses.{hasRead, inSeat, leaveBuses, mayRead, read
 use Rattle.rules.specs.Good.{Good}
 use Rattle.rules.specs.Terms.{actorId, alive, runner}
 use Rattle.rules.proofs.Frames.Buses.{wrote-leaveBuses, wrote-sitDown, wrote-standUp}
-use Rattle.rules.proofs.Kept.Clauses.{buses-fit, seat-below, seat-lives, seat-once}
-use Rattle.rules.proofs.Kept.Seats.{forget-at, standUp-keeps, standUp-seats}
+use Rattle.rules.proofs.Kept.Clauses.{buses-fit, seat-once}
+use Rattle.rules.proofs.Kept.Seats.{forget-at, seat-made, sits-not, sits-seat, sits-there, standUp-keeps, standUp-seats}
 use Rattle.rules.proofs.Lists.Columns.{other, set-zero}
 use Rattle.rules.proofs.Lists.Ties.{begins, down, ends, set-cond, step, used-inside}
 use Rattle.rules.proofs.Lists.Values.{anew}
-use Rattle.rules.proofs.Reckoned.Ledger.{listed-used, map-same-on, runner-alive, running-is, some-map, some-no, some-yes, those-keep, those-map}
+use Rattle.rules.proofs.Reckoned.Ledger.{map-same-on, runner-alive, running-is, seat-owner, seat-used, some-map, some-no, some-yes, those-keep, those-map, used-seat}
 use Rattle.rules.proofs.Reckoned.Parts.{agrees-buses, living}
 use Rattle.rules.proofs.Reckoned.Pools.{things-begin, things-end}
 use Rattle.rules.proofs.Reckoned.Ties.{up-id}
 use Rattle.rules.proofs.Reckoned.Values.{made-still, row-still}
 
--- a word that is not 0 says b one up where it says b + 1
-pub one-up : (w b : ℕ) → (w ≡ 0 → ⊥) → eqb (w - 1) b ≡ eqb w (suc b)
-one-up w b n =
-    same-bool (eqb (w - 1) b) (eqb w (suc b))
-    (λ q. eq-eqb w (suc b) (omega (arith, n, eqb-true (w - 1) b q)))
-    (λ q. eq-eqb (w - 1) b (omega (arith, eqb-true w (suc b) q)))
+-- ---- an actor in the seats of a bus
+module _ (k : Caps) (l : Ledger) (s : State) (g : Good k s) (r : Agrees k l s) (b a : ℕ) (there : alive (s STATE) a ≡ true) where
+  -- who sits in a seat is that actor on that bus, on both sides or on neither
+  reader-same : (i : ℕ) → (at s SEAT i ≡ 0 → ⊥) → isReader b (actorId s a) (readerAt s (r .buses .cursor) i) ≡ eqb (i / MOST-SEATS) b && eqb (at s SEAT i) (suc a)
+  reader-same i u = ap (λ (x : Bool). eqb (i / MOST-SEATS) b && x) (up-id k l s g r (at s SEAT i) a (omega (arith, u)) (seat-owner k s g i u) there)
 
--- ---- a seat in use, of the seats of all buses
-module _ (k : Caps) (s : State) (g : Good k s) (i : ℕ) (u : at s SEAT i ≡ 0 → ⊥) where
-  -- its bus is one that can be
-  seat-bus : i / MOST-SEATS < MOST-BUSES
-  seat-bus = omega (arith, used-inside (s SEAT) i u, g .sized .words SEAT (lit< tt))
+  -- where it sits in seat n, it is that seat
+  pub reader-seat : (n : ℕ) → b < MOST-BUSES → n < MOST-SEATS → inSeat s b n ≡ suc a →
+      (i : ℕ) → (at s SEAT i ≡ 0 → ⊥) → isReader b (actorId s a) (readerAt s (r .buses .cursor) i) ≡ eqb i (seatAt b n)
+  reader-seat n bl nl e i u =
+      reader-same i u
+      ∙ same-bool (eqb (i / MOST-SEATS) b && eqb (at s SEAT i) (suc a)) (eqb i (seatAt b n))
+      (λ q. let x = eqb-true (i / MOST-SEATS) b (and-left (eqb (i / MOST-SEATS) b) (eqb (at s SEAT i) (suc a)) q) in
+      let y = eqb-true (at s SEAT i) (suc a) (and-right (eqb (i / MOST-SEATS) b) (eqb (at s SEAT i) (suc a)) q) in
+      let here : i ≡ seatAt b (i % MOST-SEATS) = omega arith in
+      let z = seat-once g b (i % MOST-SEATS) n bl (omega arith) nl (λ w. omega arith) (ap (at s SEAT) (sym here) ∙ y ∙ sym e) in
+      eq-eqb i (seatAt b n) (omega arith))
+      (λ q. let z = eqb-true i (seatAt b n) q in
+      and-true _ _ (eq-eqb (i / MOST-SEATS) b (omega arith)) (eq-eqb (at s SEAT i) (suc a) (ap (at s SEAT) z ∙ e)))
 
-  -- it is that bus's seat
-  seat-is : i ≡ seatAt (i / MOST-SEATS) (i % MOST-SEATS)
-  seat-is = omega arith
+  -- where it sits nowhere on the bus, it is none
+  pub reader-none : sits s b (suc a) ≡ false → (i : ℕ) → (at s SEAT i ≡ 0 → ⊥) → isReader b (actorId s a) (readerAt s (r .buses .cursor) i) ≡ false
+  reader-none q i u =
+      reader-same i u
+      ∙ split (eqb (i / MOST-SEATS) b)
+      (λ x. let here : i ≡ seatAt b (i % MOST-SEATS) = omega (arith, eqb-true (i / MOST-SEATS) b x) in
+      rw x (ap (λ (j : ℕ). eqb (at s SEAT j) (suc a)) here ∙ ne-eqb (inSeat s b (i % MOST-SEATS)) (suc a) (sits-not s b (suc a) q (i % MOST-SEATS) (omega arith))))
+      (λ x. rw x)
 
-  -- who sits there lives
-  pub sitter-lives : alive (s STATE) (at s SEAT i - 1) ≡ true
-  sitter-lives =
-      ap (λ (j : ℕ). alive (s STATE) (at s SEAT j - 1)) seat-is
-      ∙ seat-lives g (i / MOST-SEATS) (i % MOST-SEATS) seat-bus (omega arith) (λ z. u (ap (at s SEAT) seat-is ∙ z))
-
-  -- the bus is made
-  pub seat-made : i / MOST-SEATS < head s BUSES
-  seat-made =
-      let n = seat-below g (i / MOST-SEATS) (i % MOST-SEATS) seat-bus (omega arith) (λ z. u (ap (at s SEAT) seat-is ∙ z)) in
-      split (ltb (i / MOST-SEATS) (head s BUSES))
-      (λ q. ltb-true _ _ q)
-      (λ q. absurd (omega (arith, n, g .buses (i / MOST-SEATS) seat-bus .1 (ltb-false _ _ q) .0 .1)))
-
-module _ (k : Caps) (l : Ledger) (s : State) (g : Good k s) (r : Agrees k l s) where
-  -- a seat of the list is in use
-  pub seat-used : (i : ℕ) → 0 < occurs i (r .buses .seats) → at s SEAT i ≡ 0 → ⊥
-  seat-used i o = listed-used (s SEAT) (r .buses .seats) _ refl (r .buses .allSeats) i o .0
-
-  -- and one in use is of the list
-  pub used-seat : (i : ℕ) → (at s SEAT i ≡ 0 → ⊥) → 0 < occurs i (r .buses .seats)
-  used-seat i u = rw (r .buses .allSeats i, ne-eqb (at s SEAT i) 0 u) (omega arith)
-
-  module _ (b a : ℕ) (there : alive (s STATE) a ≡ true) where
-    -- who sits in a seat is that actor on that bus, on both sides or on neither
-    pub reader-same : (i : ℕ) → (at s SEAT i ≡ 0 → ⊥) → isReader b (actorId s a) (readerAt s (r .buses .cursor) i) ≡ eqb (i / MOST-SEATS) b && eqb (at s SEAT i) (suc a)
-    reader-same i u = ap (λ (x : Bool). eqb (i / MOST-SEATS) b && x) (up-id k l s g r (at s SEAT i) a (omega (arith, u)) (sitter-lives k s g i u) there)
-
-    -- where it sits in seat n, it is that seat
-    pub reader-seat : (n : ℕ) → b < MOST-BUSES → n < MOST-SEATS → inSeat s b n ≡ suc a →
-        (i : ℕ) → (at s SEAT i ≡ 0 → ⊥) → isReader b (actorId s a) (readerAt s (r .buses .cursor) i) ≡ eqb i (seatAt b n)
-    reader-seat n bl nl e i u =
-        reader-same i u
-        ∙ same-bool (eqb (i / MOST-SEATS) b && eqb (at s SEAT i) (suc a)) (eqb i (seatAt b n))
-        (λ q. let x = eqb-true (i / MOST-SEATS) b (and-left (eqb (i / MOST-SEATS) b) (eqb (at s SEAT i) (suc a)) q) in
-        let y = eqb-true (at s SEAT i) (suc a) (and-right (eqb (i / MOST-SEATS) b) (eqb (at s SEAT i) (suc a)) q) in
-        let here : i ≡ seatAt b (i % MOST-SEATS) = omega arith in
-        let z = seat-once g b (i % MOST-SEATS) n bl (omega arith) nl (λ w. omega arith) (ap (at s SEAT) (sym here) ∙ y ∙ sym e) in
-        eq-eqb i (seatAt b n) (omega arith))
-        (λ q. let z = eqb-true i (seatAt b n) q in
-        and-true _ _ (eq-eqb (i / MOST-SEATS) b (omega arith)) (eq-eqb (at s SEAT i) (suc a) (ap (at s SEAT) z ∙ e)))
-
-    -- where it sits nowhere on the bus, it is none
-    pub reader-none : sits s b (suc a) ≡ false → (i : ℕ) → (at s SEAT i ≡ 0 → ⊥) → isReader b (actorId s a) (readerAt s (r .buses .cursor) i) ≡ false
-    reader-none q i u =
-        reader-same i u
-        ∙ split (eqb (i / MOST-SEATS) b)
-        (λ x. let here : i ≡ seatAt b (i % MOST-SEATS) = omega (arith, eqb-true (i / MOST-SEATS) b x) in
-        rw x (ap (λ (j : ℕ). eqb (at s SEAT j) (suc a)) here
-        ∙ lowest-first (λ n. eqb (inSeat s b n) (suc a)) MOST-SEATS (i % MOST-SEATS) (omega (arith, ltb-false (seatOf s b (suc a)) MOST-SEATS q))))
-        (λ x. rw x)
-
-    -- THE LAW: it is subscribed on both sides, or on neither
-    pub sits-same : sits s b (suc a) ≡ some (isReader b (actorId s a)) (l .buses .readers)
-    sits-same =
-        let f = readerAt s (r .buses .cursor) in
-        let p = isReader b (actorId s a) in
-        rw (r .buses .readers, some-map p f (r .buses .seats))
-        (split (sits s b (suc a))
-        (λ q. let n = seatOf s b (suc a) in
-        let h = ltb-true n MOST-SEATS q in
-        let e = eqb-true (inSeat s b n) (suc a) (lowest-at (λ n. eqb (inSeat s b n) (suc a)) MOST-SEATS h) in
-        let u : at s SEAT (seatAt b n) ≡ 0 → ⊥ = λ z. omega arith in
-        rw q (sym (some-yes (λ i. p (f i)) (r .buses .seats) (seatAt b n) (used-seat (seatAt b n) u)
-        (reader-same (seatAt b n) u ∙ and-true _ _ (eq-eqb (seatAt b n / MOST-SEATS) b (omega arith)) (eq-eqb (inSeat s b n) (suc a) e)))))
-        (λ q. rw q (sym (some-no (λ i. p (f i)) (r .buses .seats) (λ i o. reader-none q i (seat-used i o))))))
+  -- THE LAW: it is subscribed on both sides, or on neither
+  pub sits-same : sits s b (suc a) ≡ some (isReader b (actorId s a)) (l .buses .readers)
+  sits-same =
+      let f = readerAt s (r .buses .cursor) in
+      let p = isReader b (actorId s a) in
+      rw (r .buses .readers, some-map p f (r .buses .seats))
+      (split (sits s b (suc a))
+      (λ q. let n = seatOf s b (suc a) in
+      let h = sits-seat s b (suc a) q in
+      let e = sits-there s b (suc a) q in
+      let u : at s SEAT (seatAt b n) ≡ 0 → ⊥ = λ z. omega arith in
+      rw q (sym (some-yes (λ i. p (f i)) (r .buses .seats) (seatAt b n) (used-seat k s g l r (seatAt b n) u)
+      (reader-same (seatAt b n) u ∙ and-true _ _ (eq-eqb (seatAt b n / MOST-SEATS) b (omega arith)) (eq-eqb (inSeat s b n) (suc a) e)))))
+      (λ q. rw q (sym (some-no (λ i. p (f i)) (r .buses .seats) (λ i o. reader-none q i (seat-used k s g l r i o))))))
 
 -- ---- the running actor
-module _ (k : Caps) (l : Ledger) (s : State) (g : Good k s) (r : Agrees k l s) where
-  -- the running actor's slot, one up
-  pub runner-up : eqb (runner s) 0 ≡ false → suc (runner s - 1) ≡ runner s
-  runner-up h = omega (arith, eqb-false (runner s) 0 h)
+-- its slot, one up
+pub runner-up : (s : State) → eqb (runner s) 0 ≡ false → suc (runner s - 1) ≡ runner s
+runner-up s h = omega (arith, eqb-false (runner s) 0 h)
 
-  -- it is subscribed on both sides, or on neither
-  pub subscribed-same : (b : ℕ) → eqb (runner s) 0 ≡ false → sits s b (runner s) ≡ subscribed l b
-  subscribed-same b h =
-      ap (sits s b) (sym (runner-up h))
-      ∙ sits-same k l s g r b (runner s - 1) (runner-alive k s g h)
-      ∙ ap (λ (id : ℕ). some (isReader b id) (l .buses .readers)) (sym (running-is k s g l r h))
+-- it is subscribed on both sides, or on neither
+pub subscribed-same : (k : Caps) (l : Ledger) (s : State) (g : Good k s) (r : Agrees k l s) (b : ℕ) → eqb (runner s) 0 ≡ false → sits s b (runner s) ≡ subscribed l b
+subscribed-same k l s g r b h =
+    ap (sits s b) (sym (runner-up s h))
+    ∙ sits-same k l s g r b (runner s - 1) (runner-alive k s g h)
+    ∙ ap (λ (id : ℕ). some (isReader b id) (l .buses .readers)) (sym (running-is k s g l r h))
 
 -- ---- who stands up
 -- a bit of those who may still read is none of those who have read
@@ -194,13 +152,14 @@ module _ (k : Caps) (l : Ledger) (s : State) (g : Good k s) (r : Agrees k l s) (
         made = made-still w refl (v .made);
         rank = v .rank;
         values = v .values
-            ∙ map-same-on (valueSaid s (v .rank)) (valueSaid t (v .rank)) (valuesIn s) (λ d o. rw (w .cols VALUE-BUS refl, w .cols LENGTH refl, w .cols PAYLOAD refl, w .cols PUBLISHED refl, stood-read k s g b n d))
+            ∙ map-same-on (valueSaid s (v .rank)) (valueSaid t (v .rank)) (valuesIn s)
+            (λ d o. rw (w .cols VALUE-BUS refl, w .cols LENGTH refl, w .cols PAYLOAD refl, w .cols PUBLISHED refl, stood-read k s g b n d))
             ∙ ap (map (valueSaid t (v .rank))) (sym (row-still w refl));
         seats = keep (λ i. not (eqb i (seatAt b n))) (v .seats);
         allSeats = rw seats (ends (s SEAT) (set (s SEAT) (seatAt b n) 0) (λ i. eqb i (seatAt b n)) (λ i. set-cond (s SEAT) (seatAt b n) 0 i inside) (v .seats) (v .allSeats));
         cursor = v .cursor;
         readers = things-end (readerAt s (v .cursor)) (readerAt t (v .cursor)) (l .buses .readers) (v .seats) q (λ i. eqb i (seatAt b n)) (v .readers)
-            (λ i o. same i (seat-used k l s g r i o)) (λ i z. rw (w .cols AGE refl, seats, other (s SEAT) (seatAt b n) 0 i z));
+            (λ i o. same i (seat-used k s g l r i o)) (λ i z. rw (w .cols AGE refl, seats, other (s SEAT) (seatAt b n) 0 i z));
         ascending = rw (row-still w refl) (v .ascending);
         before = λ d u. v .before d (λ z. u (rw (w .cols VALUE-BUS refl) z));
         came = λ i u. v .came i (stood-sits i u .1);
@@ -216,11 +175,11 @@ module _ (k : Caps) (l : Ledger) (s : State) (g : Good k s) (r : Agrees k l s) (
 
 -- ---- who leaves every bus
 -- the reckoning where subscriptions end of which there are none
-pub readers-none : (k : Caps) (l : Ledger) (s : State) (g : Good k s) (r : Agrees k l s) (q : Reader → Bool) →
+readers-none : (k : Caps) (l : Ledger) (s : State) (g : Good k s) (r : Agrees k l s) (q : Reader → Bool) →
     ((i : ℕ) → (at s SEAT i ≡ 0 → ⊥) → q (readerAt s (r .buses .cursor) i) ≡ false) → those (λ x. not (q x)) (l .buses .readers) ≡ l .buses .readers
 readers-none k l s g r q none =
     let f = readerAt s (r .buses .cursor) in
-    rw (r .buses .readers, those-map (λ x. not (q x)) f (r .buses .seats), keep-all-on (λ i. not (q (f i))) (r .buses .seats) (λ i o. ap not (none i (seat-used k l s g r i o))))
+    rw (r .buses .readers, those-map (λ x. not (q x)) f (r .buses .seats), keep-all-on (λ i. not (q (f i))) (r .buses .seats) (λ i o. ap not (none i (seat-used k s g l r i o))))
 
 -- one bus
 leave-one : (k : Caps) (l : Ledger) (s : State) → Good k s → Agrees k l s → (a b : ℕ) → alive (s STATE) a ≡ true → b < MOST-BUSES →
@@ -229,9 +188,8 @@ unfolding endReaders
 leave-one k l s g r a b there bl =
     let n = seatOf s b (suc a) in
     split (sits s b (suc a))
-    (λ q. let nl = ltb-true n MOST-SEATS q in
-    let e = eqb-true (inSeat s b n) (suc a) (lowest-at (λ n. eqb (inSeat s b n) (suc a)) MOST-SEATS nl) in
-    rw q (standUp-keeps k s g b n bl nl, standUp-agrees k l s g r b n bl nl a there e))
+    (λ q. let nl = sits-seat s b (suc a) q in
+    rw q (standUp-keeps k s g b n bl nl, standUp-agrees k l s g r b n bl nl a there (sits-there s b (suc a) q)))
     (λ q. rw q (g, subst (λ (xs : List Reader). Agrees k (withReaders l xs) s) (sym (readers-none k l s g r (isReader b (actorId s a)) (reader-none k l s g r b a there q))) r))
 
 -- the subscriptions of that one to the first n buses
@@ -299,7 +257,7 @@ leaveBuses-agrees k l s g r a there =
     let same : those (λ x. not (onFirst (head s BUSES) id x)) (l .buses .readers) ≡ those (λ x. not (eqb (x .who) id)) (l .buses .readers) =
     rw (r .buses .readers, those-map (λ x. not (onFirst (head s BUSES) id x)) f (r .buses .seats), those-map (λ x. not (eqb (x .who) id)) f (r .buses .seats))
     (ap (map f) (keep-same-on (λ i. not (onFirst (head s BUSES) id (f i))) (λ i. not (eqb (f i .who) id)) (r .buses .seats)
-    (λ i o. rw (lt-ltb (i / MOST-SEATS) (head s BUSES) (seat-made k s g i (seat-used k l s g r i o)))))) in
+    (λ i o. rw (lt-ltb (i / MOST-SEATS) (head s BUSES) (seat-made k s g i (seat-used k s g l r i o)))))) in
     subst (λ (xs : List Reader). Agrees k (withReaders l xs) (leaveBuses k a (head s BUSES) s)) same (leaves (head s BUSES) k l s g r a there (buses-fit g) .1)
 
 -- ---- who sits down
@@ -334,7 +292,7 @@ module _ (k : Caps) (l : Ledger) (s : State) (g : Good k s) (r : Agrees k l s) (
         cursor = began;
         readers = things-begin (readerAt s (v .cursor)) (readerAt t began) (l .buses .readers) (v .seats) i (record { bus = b; who = actorId s a; cursor = l .buses .published }) (v .readers)
             (rw (here, eq-eqb i i refl, down a) (ap (λ (x : ℕ). record { bus = x; who = actorId s a; cursor = l .buses .published }) (omega arith)))
-            (λ j o. let q : eqb j i ≡ false = ne-eqb j i (λ z. seat-used k l s g r j o (ap (at s SEAT) z ∙ empty)) in rw (other (s SEAT) i (suc a) j q, q));
+            (λ j o. let q : eqb j i ≡ false = ne-eqb j i (λ z. seat-used k s g l r j o (ap (at s SEAT) z ∙ empty)) in rw (other (s SEAT) i (suc a) j q, q));
         ascending = v .ascending;
         before = v .before;
         came = λ j u. split (eqb j i)

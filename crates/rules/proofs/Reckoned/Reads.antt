@@ -30,21 +30,23 @@ use Rattle.rules.specs.Agrees.{Agrees, readerAt, valueSaid, valuesIn}
 use Rattle.rules.specs.Buses.{hasRead, inSeat, isOn, isUnread, mayRead, oldestUnread, readBy, readOff, readOut, retire, seatAt, seatOf, signed, sits, unreadLength, valueAt, valueOf}
 use Rattle.rules.specs.Good.{Good}
 use Rattle.rules.specs.Terms.{actorId, alive}
-use Rattle.rules.proofs.Frames.Wrote.{wrote-none, wrote-poke}
+use Rattle.rules.proofs.Frames.Wrote.{Wrote, wrote-none, wrote-poke}
 use Rattle.rules.proofs.Kept.Clauses.{length-fits, read-back}
+use Rattle.rules.proofs.Kept.Row.{used-value, value-below, value-once, value-there, value-used, values-at, values-long}
 use Rattle.rules.proofs.Kept.Seats.{sits-bus, sits-seat, sits-there}
 use Rattle.rules.proofs.Kept.Values.{signed-keeps, signed-may, signed-read, signed-reads}
 use Rattle.rules.proofs.Lists.Columns.{other}
+use Rattle.rules.proofs.Lists.Ties.{one-up}
 use Rattle.rules.proofs.Lists.Values.{anew, keep-but, map-at, map-without}
-use Rattle.rules.proofs.Reckoned.Ledger.{first-at, first-map, first-none, map-same-on, some-map, some-no, some-yes, those-map}
+use Rattle.rules.proofs.Reckoned.Ledger.{first-at, first-map, first-none, map-same-on, seat-used, some-map, some-no, some-yes, those-map, used-seat}
 use Rattle.rules.proofs.Reckoned.Parts.{agrees-buses, living}
-use Rattle.rules.proofs.Reckoned.Readers.{one-up, reader-none, reader-seat, seat-used, used-seat}
-use Rattle.rules.proofs.Reckoned.Values.{bus-is, made-still, row-still, retire-agrees, used-value, value-bus, value-once, value-stands, value-used, values-at, values-long}
+use Rattle.rules.proofs.Reckoned.Readers.{reader-none, reader-seat}
+use Rattle.rules.proofs.Reckoned.Values.{bus-is, made-still, row-still, retire-agrees, value-bus}
 
 -- ---- what is unread
 -- the reckoning's test: a value is unread for that one
-abbrev fresh : Ledger → ℕ → ℕ → Value → Bool
-fresh l b id v = some (λ x. isReader b id x && unread x v) (l .buses .readers)
+abbrev unreadBy : Ledger → ℕ → ℕ → Value → Bool
+unreadBy l b id v = some (λ x. isReader b id x && unread x v) (l .buses .readers)
 
 -- where one alone passes the first test, one passes both where it passes the second
 some-only : (p q : ℕ → Bool) (es : List ℕ) (j : ℕ) → 0 < occurs j es → ((i : ℕ) → 0 < occurs i es → p i ≡ eqb i j) → some (λ i. p i && q i) es ≡ q j
@@ -55,13 +57,13 @@ some-only p q es j o w =
 
 module _ (k : Caps) (l : Ledger) (s : State) (g : Good k s) (r : Agrees k l s) (b a : ℕ) (there : alive (s STATE) a ≡ true) where
   -- who sits on the bus has its seat there
-  seat-there : sits s b (suc a) ≡ true → at s SEAT (seatAt b (seatOf s b (suc a))) ≡ 0 → ⊥
-  seat-there q z = omega (arith, sits-there s b (suc a) q)
+  own-seat : sits s b (suc a) ≡ true → at s SEAT (seatAt b (seatOf s b (suc a))) ≡ 0 → ⊥
+  own-seat q z = omega (arith, sits-there s b (suc a) q)
 
   -- the two tests agree on a value
-  pub fresh-same : sits s b (suc a) ≡ true → (d : ℕ) → (at s VALUE-BUS d ≡ 0 → ⊥) →
-      fresh l b (actorId s a) (valueSaid s (r .buses .rank) d) ≡ eqb (at s VALUE-BUS d) (suc b) && mayRead (at s READERS d) (seatOf s b (suc a))
-  fresh-same q d u =
+  unread-same : sits s b (suc a) ≡ true → (d : ℕ) → (at s VALUE-BUS d ≡ 0 → ⊥) →
+      unreadBy l b (actorId s a) (valueSaid s (r .buses .rank) d) ≡ eqb (at s VALUE-BUS d) (suc b) && mayRead (at s READERS d) (seatOf s b (suc a))
+  unread-same q d u =
       let n = seatOf s b (suc a) in
       let i = seatAt b n in
       let f = readerAt s (r .buses .cursor) in
@@ -70,11 +72,11 @@ module _ (k : Caps) (l : Ledger) (s : State) (g : Good k s) (r : Agrees k l s) (
       let nl = sits-seat s b (suc a) q in
       let i-bus : i / MOST-SEATS ≡ b = omega arith in
       ap (some p) (r .buses .readers) ∙ some-map p f (r .buses .seats)
-      ∙ some-only (λ j. isReader b (actorId s a) (f j)) (λ j. unread (f j) v) (r .buses .seats) i (used-seat k l s g r i (seat-there q))
-      (λ j o. reader-seat k l s g r b a there n (sits-bus s b (suc a) q k g (λ z. omega arith)) nl (sits-there s b (suc a) q) j (seat-used k l s g r j o))
+      ∙ some-only (λ j. isReader b (actorId s a) (f j)) (λ j. unread (f j) v) (r .buses .seats) i (used-seat k s g l r i (own-seat q))
+      (λ j o. reader-seat k l s g r b a there n (sits-bus s b (suc a) q k g (λ z. omega arith)) nl (sits-there s b (suc a) q) j (seat-used k s g l r j o))
       ∙ rw (i-bus, one-up (at s VALUE-BUS d) b u)
       (split (eqb (at s VALUE-BUS d) (suc b))
-      (λ y. rw y (sym (r .buses .unread b n d nl (seat-there q) (eqb-true (at s VALUE-BUS d) (suc b) y))))
+      (λ y. rw y (sym (r .buses .unread b n d nl (own-seat q) (eqb-true (at s VALUE-BUS d) (suc b) y))))
       (λ y. rw y))
 
   -- the reckoning's oldest, where there is one
@@ -84,13 +86,13 @@ module _ (k : Caps) (l : Ledger) (s : State) (g : Good k s) (r : Agrees k l s) (
   oldest-is run h =
       let f = valueSaid s (r .buses .rank) in
       let n = seatOf s b (suc a) in
-      let p = fresh l b (actorId s a) in
+      let p = unreadBy l b (actorId s a) in
       split (sits s b (suc a))
       (λ q. let j = lowest (isUnread s b n) (head s ISSUED) in
       let jl : j < head s ISSUED = rw q at h in
       let at-i : (i : ℕ) → i < head s ISSUED → p (f (getD (valuesIn s) i 0)) ≡ isUnread s b n i = λ i m.
-      ap (λ (d : ℕ). p (f d)) (values-at k s g i m) ∙ fresh-same q (valueAt s i) (value-used k s g (valueAt s i) (value-stands k s g i m) .0) in
-      rw q (ap (λ (id : ℕ). first (fresh l b id) (l .buses .values)) run
+      ap (λ (d : ℕ). p (f d)) (values-at k s g i m) ∙ unread-same q (valueAt s i) (value-there k s g i m) in
+      rw q (ap (λ (id : ℕ). first (unreadBy l b id) (l .buses .values)) run
       ∙ ap (first p) (r .buses .values) ∙ first-map p f (valuesIn s)
       ∙ ap (map f) (first-at (λ d. p (f d)) (valuesIn s) j (omega (arith, values-long k s g)) (at-i j jl ∙ lowest-at (isUnread s b n) (head s ISSUED) jl)
       (λ i m. at-i i (omega arith) ∙ lowest-first (isUnread s b n) (head s ISSUED) i m) .0)
@@ -103,18 +105,18 @@ module _ (k : Caps) (l : Ledger) (s : State) (g : Good k s) (r : Agrees k l s) (
   oldest-none run h =
       let f = valueSaid s (r .buses .rank) in
       let n = seatOf s b (suc a) in
-      let p = fresh l b (actorId s a) in
-      ap (λ (id : ℕ). first (fresh l b id) (l .buses .values)) run
+      let p = unreadBy l b (actorId s a) in
+      ap (λ (id : ℕ). first (unreadBy l b id) (l .buses .values)) run
       ∙ ap (first p) (r .buses .values) ∙ first-map p f (valuesIn s)
       ∙ ap (map f) (first-none (λ d. p (f d)) (valuesIn s) (λ d o. split (sits s b (suc a))
       (λ q. let u = value-used k s g d o .0 in
       let w = used-value k s g d u in
       let low : head s ISSUED ≤ lowest (isUnread s b n) (head s ISSUED) = rw q at h in
-      fresh-same q d u ∙ ap (λ (e : ℕ). eqb (at s VALUE-BUS e) (suc b) && mayRead (at s READERS e) n) (sym (w .2)) ∙ lowest-first (isUnread s b n) (head s ISSUED) (w .0) (omega (arith, w .1)))
+      unread-same q d u ∙ ap (λ (e : ℕ). eqb (at s VALUE-BUS e) (suc b) && mayRead (at s READERS e) n) (sym (w .2)) ∙ lowest-first (isUnread s b n) (head s ISSUED) (w .0) (omega (arith, w .1)))
       (λ q. ap (some (λ x. isReader b (actorId s a) x && unread x (f d))) (r .buses .readers)
       ∙ some-map (λ x. isReader b (actorId s a) x && unread x (f d)) (readerAt s (r .buses .cursor)) (r .buses .seats)
       ∙ some-no (λ i. isReader b (actorId s a) (readerAt s (r .buses .cursor) i) && unread (readerAt s (r .buses .cursor) i) (f d)) (r .buses .seats)
-      (λ i m. rw (reader-none k l s g r b a there q i (seat-used k l s g r i m))))))
+      (λ i m. rw (reader-none k l s g r b a there q i (seat-used k s g l r i m))))))
 
   -- a payload is as long as its word says
   value-long : (d : ℕ) → d < k .datas → length (valueOf s d) ≡ at s LENGTH d
@@ -126,7 +128,7 @@ module _ (k : Caps) (l : Ledger) (s : State) (g : Good k s) (r : Agrees k l s) (
       let j = oldestUnread s b (suc a) in
       split (ltb j (head s ISSUED))
       (λ q. let h = ltb-true j (head s ISSUED) q in
-      rw (q, oldest-is run h) (sym (value-long (valueAt s j) (value-used k s g (valueAt s j) (value-stands k s g j h) .1))))
+      rw (q, oldest-is run h) (sym (value-long (valueAt s j) (value-below k s g j h))))
       (λ q. rw (q, oldest-none run (ltb-false j (head s ISSUED) q)))
 
 -- ---- a value is read
@@ -161,7 +163,7 @@ module _ (k : Caps) (l : Ledger) (s : State) (g : Good k s) (r : Agrees k l s) w
       omega (arith, r .buses .ascending i j h (omega (arith, length-map (valuesIn s) (r .buses .rank))), place i (omega arith), place j m)
 
   -- so two values of one rank are one
-  pub rank-once : (j : ℕ) → j < head s ISSUED → (d : ℕ) → (at s VALUE-BUS d ≡ 0 → ⊥) → eqb (r .buses .rank d) (r .buses .rank (valueAt s j)) ≡ eqb d (valueAt s j)
+  rank-once : (j : ℕ) → j < head s ISSUED → (d : ℕ) → (at s VALUE-BUS d ≡ 0 → ⊥) → eqb (r .buses .rank d) (r .buses .rank (valueAt s j)) ≡ eqb d (valueAt s j)
   rank-once j jl d u =
       let rank = r .buses .rank in
       let w = used-value k s g d u in
@@ -179,6 +181,17 @@ module _ (k : Caps) (l : Ledger) (s : State) (g : Good k s) (r : Agrees k l s) w
   -- the one in seat n of bus b reads the j-th, the oldest that it has not read
   module _ (b n a j : ℕ) (there : alive (s STATE) a ≡ true) (bl : b < MOST-BUSES) (nl : n < MOST-SEATS) (here : inSeat s b n ≡ suc a) (jl : j < head s ISSUED)
       (new : isUnread s b n j ≡ true) (old : (i : ℕ) → i < j → isUnread s b n i ≡ false) where
+    -- the state once it is read, and the reckoning
+    abbrev stateRead : State
+    stateRead = signedIn s n (valueAt s j)
+
+    abbrev ledgerRead : Ledger
+    ledgerRead = readIn l b (actorId s a) (r .buses .rank (valueAt s j))
+
+    -- of the state, who reads what is written alone
+    wrote-read : Wrote (READERS ∷ []) s stateRead
+    wrote-read = wrote-poke (wrote-none s) READERS (valueAt s j) (signed (at s READERS (valueAt s j)) n)
+
     -- it is one of the bus's
     read-on : at s VALUE-BUS (valueAt s j) ≡ suc b
     read-on = eqb-true (at s VALUE-BUS (valueAt s j)) (suc b) (and-left (isOn s b j) (mayRead (at s READERS (valueAt s j)) n) new)
@@ -191,16 +204,12 @@ module _ (k : Caps) (l : Ledger) (s : State) (g : Good k s) (r : Agrees k l s) w
     read-seat : at s SEAT (seatAt b n) ≡ 0 → ⊥
     read-seat z = omega (arith, here)
 
-    -- it is a data entry
-    read-below : valueAt s j < k .datas
-    read-below = value-used k s g (valueAt s j) (value-stands k s g j jl) .1
-
     -- what is unread then for that one: the later values
     read-later : (d : ℕ) → at s VALUE-BUS d ≡ suc b → eqb d (valueAt s j) ≡ false → mayRead (at s READERS d) n ≡ leb (r .buses .rank (valueAt s j) + 1) (r .buses .rank d)
     read-later d e q =
         let rank = r .buses .rank in
         let w = used-value k s g d (λ z. omega arith) in
-        let first = leb-true (r .buses .cursor (seatAt b n)) (rank (valueAt s j)) (sym (r .buses .unread b n (valueAt s j) nl read-seat read-on) ∙ read-may) in
+        let reached = leb-true (r .buses .cursor (seatAt b n)) (rank (valueAt s j)) (sym (r .buses .unread b n (valueAt s j) nl read-seat read-on) ∙ read-may) in
         elim (decLt (w .0) j) [
           | yes y ↦ let no = old (w .0) y in
               let yes : isOn s b (w .0) ≡ true = eq-eqb _ (suc b) (ap (at s VALUE-BUS) (w .2) ∙ e) in
@@ -214,38 +223,39 @@ module _ (k : Caps) (l : Ledger) (s : State) (g : Good k s) (r : Agrees k l s) w
         ]
 
     -- its bits once it is read
-    read-bits : at (signedIn s n (valueAt s j)) READERS (valueAt s j) ≡ signed (at s READERS (valueAt s j)) n
+    read-bits : at stateRead READERS (valueAt s j) ≡ signed (at s READERS (valueAt s j)) n
     unfolding poke with-col
-    read-bits = read-back g READERS (valueAt s j) (signed (at s READERS (valueAt s j)) n) tt read-below
+    read-bits = read-back g READERS (valueAt s j) (signed (at s READERS (valueAt s j)) n) tt (value-below k s g j jl)
 
     -- those of another value
-    other-bits : (d : ℕ) → eqb d (valueAt s j) ≡ false → at (signedIn s n (valueAt s j)) READERS d ≡ at s READERS d
+    other-bits : (d : ℕ) → eqb d (valueAt s j) ≡ false → at stateRead READERS d ≡ at s READERS d
     unfolding poke with-col
     other-bits d q = other (s READERS) (valueAt s j) (signed (at s READERS (valueAt s j)) n) d q
 
     -- it says one read more, and the others what they said
     read-says : (d : ℕ) → (at s VALUE-BUS d ≡ 0 → ⊥) →
-        cond (eqb (r .buses .rank d) (r .buses .rank (valueAt s j))) (oneMore (valueSaid s (r .buses .rank) d)) (valueSaid s (r .buses .rank) d) ≡ valueSaid (signedIn s n (valueAt s j)) (r .buses .rank) d
+        cond (eqb (r .buses .rank d) (r .buses .rank (valueAt s j))) (oneMore (valueSaid s (r .buses .rank) d)) (valueSaid s (r .buses .rank) d)
+        ≡ valueSaid stateRead (r .buses .rank) d
     read-says d u =
         let e = valueAt s j in
-        let w = wrote-poke (wrote-none s) READERS e (signed (at s READERS e) n) in
-        let unsigned = not-true (hasRead (at s READERS e) n) (g .values e read-below .1 (λ z. omega (arith, read-on)) .1 n nl read-may .0) in
+        let w = wrote-read in
+        let unsigned = not-true (hasRead (at s READERS e) n) (g .values e (value-below k s g j jl) .1 (λ z. omega (arith, read-on)) .1 n nl read-may .0) in
         rw (rank-once j jl d u, w .cols VALUE-BUS refl, w .cols LENGTH refl, w .cols PAYLOAD refl, w .cols PUBLISHED refl)
         (split (eqb d e)
         (λ q. rw (q, eqb-true d e q, read-bits, signed-count (at s READERS e) n nl unsigned))
         (λ q. rw (q, other-bits d q)))
 
     -- so the reckoning's values
-    read-values : readIn l b (actorId s a) (r .buses .rank (valueAt s j)) .buses .values ≡ map (valueSaid (signedIn s n (valueAt s j)) (r .buses .rank)) (valuesIn s)
+    read-values : ledgerRead .buses .values ≡ map (valueSaid stateRead (r .buses .rank)) (valuesIn s)
     read-values =
         let rank = r .buses .rank in
         let count : Value → Value = λ u. cond (eqb (u .rank) (rank (valueAt s j))) (oneMore u) u in
         ap (map count) (r .buses .values) ∙ map-map count (valueSaid s rank) (valuesIn s)
-        ∙ map-same-on (λ d. count (valueSaid s rank d)) (valueSaid (signedIn s n (valueAt s j)) rank) (valuesIn s) (λ d o. read-says d (value-used k s g d o .0))
+        ∙ map-same-on (λ d. count (valueSaid s rank d)) (valueSaid stateRead rank) (valuesIn s) (λ d o. read-says d (value-used k s g d o .0))
 
     -- who may read what
     read-masks : (c m d : ℕ) → m < MOST-SEATS → (inSeat s c m ≡ 0 → ⊥) → at s VALUE-BUS d ≡ suc c →
-        mayRead (at (signedIn s n (valueAt s j)) READERS d) m ≡ leb (anew (seatAt b n) (r .buses .rank (valueAt s j) + 1) (r .buses .cursor) (seatAt c m)) (r .buses .rank d)
+        mayRead (at stateRead READERS d) m ≡ leb (anew (seatAt b n) (r .buses .rank (valueAt s j) + 1) (r .buses .cursor) (seatAt c m)) (r .buses .rank d)
     read-masks c m d ml u e =
         let x = valueAt s j in
         let rank = r .buses .rank in
@@ -264,11 +274,11 @@ module _ (k : Caps) (l : Ledger) (s : State) (g : Good k s) (r : Agrees k l s) w
         (λ y. rw (other-bits d y) (r .buses .unread c m d ml u e))))
 
     -- THE LAW of a value that is read: the reckoning counts it, and its cursor passes it
-    signed-agrees : Agrees k (readIn l b (actorId s a) (r .buses .rank (valueAt s j))) (signedIn s n (valueAt s j))
+    signed-agrees : Agrees k ledgerRead stateRead
     signed-agrees =
         let d = valueAt s j in
         let t = signedIn s n d in
-        let w = wrote-poke (wrote-none s) READERS d (signed (at s READERS d) n) in
+        let w = wrote-read in
         let v = r .buses in
         let cursor = anew (seatAt b n) (v .rank d + 1) (v .cursor) in
         let pass : Reader → Reader = λ x. cond (isReader b (actorId s a) x) (moved (v .rank d) x) x in
@@ -281,7 +291,7 @@ module _ (k : Caps) (l : Ledger) (s : State) (g : Good k s) (r : Agrees k l s) w
           cursor = cursor;
           readers = ap (map pass) (v .readers) ∙ map-map pass (readerAt s (v .cursor)) (v .seats)
               ∙ map-same-on (λ i. pass (readerAt s (v .cursor) i)) (readerAt t cursor) (v .seats) (λ i o.
-              rw (reader-seat k l s g r b a there n bl nl here i (seat-used k l s g r i o), w .cols AGE refl, w .cols SEAT refl)
+              rw (reader-seat k l s g r b a there n bl nl here i (seat-used k s g l r i o), w .cols AGE refl, w .cols SEAT refl)
               (split (eqb i (seatAt b n)) (λ q. rw q) (λ q. rw q)));
           ascending = rw (row-still w refl) (v .ascending);
           before = λ e u. v .before e (λ z. u (rw (w .cols VALUE-BUS refl) z));
@@ -292,17 +302,17 @@ module _ (k : Caps) (l : Ledger) (s : State) (g : Good k s) (r : Agrees k l s) w
         })
 
     -- it has been read as often as its bus asks, on both sides or on neither
-    out-same : Reckon.readOut l (valueSaid (signedIn s n (valueAt s j)) (r .buses .rank) (valueAt s j)) ≡ readOut (signedIn s n (valueAt s j)) b (valueAt s j)
+    out-same : Reckon.readOut l (valueSaid stateRead (r .buses .rank) (valueAt s j)) ≡ readOut stateRead b (valueAt s j)
     out-same =
         let d = valueAt s j in
-        let w = wrote-poke (wrote-none s) READERS d (signed (at s READERS d) n) in
+        let w = wrote-read in
         let b-is : at s VALUE-BUS d - 1 ≡ b = omega (arith, read-on) in
         let made : b < head s BUSES = omega (arith, value-bus k l s g r d (λ z. omega (arith, read-on))) in
         rw (w .cols VALUE-BUS refl, w .cols BUS-READS refl, b-is, bus-is k l s g r b made)
 
     -- one that is read out ends
-    read-left : those (λ u. not (eqb (u .rank) (r .buses .rank (valueAt s j)) && Reckon.readOut l u)) (readIn l b (actorId s a) (r .buses .rank (valueAt s j)) .buses .values)
-        ≡ cond (readOut (signedIn s n (valueAt s j)) b (valueAt s j)) (without j (readIn l b (actorId s a) (r .buses .rank (valueAt s j)) .buses .values)) (readIn l b (actorId s a) (r .buses .rank (valueAt s j)) .buses .values)
+    read-left : those (λ u. not (eqb (u .rank) (r .buses .rank (valueAt s j)) && Reckon.readOut l u)) (ledgerRead .buses .values)
+        ≡ cond (readOut stateRead b (valueAt s j)) (without j (ledgerRead .buses .values)) (ledgerRead .buses .values)
     read-left =
         let d = valueAt s j in
         let t = signedIn s n d in
@@ -316,7 +326,7 @@ module _ (k : Caps) (l : Ledger) (s : State) (g : Good k s) (r : Agrees k l s) w
         (split (readOut t b d)
         (λ q. rw q (ap (map f) (keep-but (λ e. p (f e)) (valuesIn s) j (omega arith) (ap (λ (e : ℕ). p (f e)) (values-at k s g j jl) ∙ this ∙ rw q)
         (λ i m ne. let il : i < head s ISSUED = omega arith in
-        ap (λ (e : ℕ). p (f e)) (values-at k s g i il) ∙ others (valueAt s i) (value-used k s g (valueAt s i) (value-stands k s g i il) .0) (ne-eqb (valueAt s i) d (λ z. ne (value-once k s g i j il jl z)))))
+        ap (λ (e : ℕ). p (f e)) (values-at k s g i il) ∙ others (valueAt s i) (value-there k s g i il) (ne-eqb (valueAt s i) d (λ z. ne (value-once k s g i j il jl z)))))
         ∙ map-without f j (valuesIn s)))
         (λ q. rw q (ap (map f) (keep-all-on (λ e. p (f e)) (valuesIn s) (λ e o. split (eqb e d)
         (λ y. ap (λ (x : ℕ). p (f x)) (eqb-true e d y) ∙ this ∙ rw q)
@@ -328,7 +338,7 @@ module _ (k : Caps) (l : Ledger) (s : State) (g : Good k s) (r : Agrees k l s) w
     readOff-agrees =
         let d = valueAt s j in
         let t = signedIn s n d in
-        let w = wrote-poke (wrote-none s) READERS d (signed (at s READERS d) n) in
+        let w = wrote-read in
         let m = readIn l b (actorId s a) (r .buses .rank d) in
         let good = signed-keeps k s g n j nl jl in
         subst (λ (vs : List Value). Agrees k (withValues m vs) (cond (readOut t b d) (retire t j) t)) (sym read-left)

@@ -1,48 +1,48 @@
 -- The values of the buses, and the reckoning: one ends, those that have reached their age end, one is published.
-use Prim.Native.Nat.{ℕ, zero, suc, _+_, _-_, _≤_, _<_}
+use Prim.Native.Nat.{ℕ, zero, suc, _-_, _≤_, _<_}
 use native.Mathlib.Omega.{arith}
 use mathlib.Core.Path.{_≡_, refl, sym, ap, ap₂, subst, _∙_}
 use mathlib.Core.Bool.{Bool, true, false, not}
 use mathlib.Core.List.{List, [], _∷_, _++_, append-nil, map, map-append}
-use lib.ListN.{length, getD, take, drop, drop-of-length-le, length-map, List·getD-eq-default}
-use lib.Seq.{getD-take, length-take-le, take-all}
-use lib.Dec.{eqb, ltb, lit<}
-use borrow.Author.Tests.{eqb-true, eq-eqb, ne-eqb, le-leb, lt-ltb, ltb-true, ltb-false}
+use lib.ListN.{length, getD, take, drop, drop-of-length-le, length-map}
+use lib.Seq.{take-all}
+use lib.Dec.{eqb, lit<}
+use borrow.Author.Tests.{eqb-true, eq-eqb, ne-eqb, le-leb, lt-ltb}
 use Rattle.ledger.specs.Lists.{those}
 use Rattle.ledger.specs.Ledger.{Bus, Buses, Ledger, Reader, Value, withBuses}
 use Rattle.ledger.specs.Reckon
 use Rattle.ledger.specs.Reckon.{issued, stale, withValues}
 use Rattle.ledger.specs.Room.{busOf}
-use Rattle.pools.specs.Pool.{Exact, occurs}
+use Rattle.pools.specs.Pool.{occurs}
 use Rattle.pools.specs.Bits.{free}
 use Rattle.pools.specs.Lists.{without}
 use Rattle.pools.specs.Slot.{unused}
 use Rattle.pools.proofs.BoolLaws.{flag≤, split}
 use Rattle.pools.proofs.PoolLaws.{count-none}
-use Rattle.pools.proofs.ListLaws.{occurs-getD, occurs-once, occurs-place, occurs-pos, occurs-without}
+use Rattle.pools.proofs.ListLaws.{occurs-getD, occurs-without}
 use Rattle.tables.specs.declared.Caps.{Caps}
-use Rattle.tables.specs.Columns.{ARRIVAL, ARRIVED, BUS-AGE, BUS-READS, BUS-SEATS, BUS-SIZE, BUSES, CLOCK, DATA-FREE, HAND, ISSUE, ISSUED, LENGTH, MAIL-DATA, MAIL-OWNER, AGE, PAYLOAD, PUBLISHED, READERS, SEAT, SENDER, VALUE-BUS}
+use Rattle.tables.specs.Columns.{AGE, ARRIVAL, ARRIVED, BUS-AGE, BUS-READS, BUS-SEATS, BUS-SIZE, BUSES, CLOCK, DATA-FREE, HAND, ISSUE, ISSUED}
+use Rattle.tables.specs.Columns.{LENGTH, MAIL-DATA, MAIL-OWNER, PAYLOAD, PUBLISHED, READERS, SEAT, SENDER, VALUE-BUS}
 use Rattle.tables.specs.Limits.{MOST-SEATS, PAYLOAD-MOST}
 use Rattle.tables.specs.State.{State, at, head, poke, with-col}
-use Rattle.tables.specs.Action.{freeBit, pull, push, takeBit, write}
+use Rattle.tables.specs.Action.{freeBit, pull, push, takeBit}
 use Rattle.tables.proofs.ActionLaws.{pull-leaves, push-joins}
-use Rattle.rules.specs.Actions.{unfill}
 use Rattle.rules.specs.Agrees.{Agrees, BusesAgree, MailAgree, arrivals, boxAt, busAt, handAt, messageOf, readerAt, upTo, valueSaid, valuesIn}
 use Rattle.rules.specs.Buses.{aired, airing, audience, hasRead, inSeat, isStale, issue, mayRead, retire, seatAt, valueAt}
 use Rattle.rules.specs.Good.{Good}
 use Rattle.rules.specs.Sound.{OWNERS}
-use Rattle.rules.proofs.Frames.Actions.{wrote-unfill}
 use Rattle.rules.proofs.Frames.Buses.{AIRED, wrote-issue}
-use Rattle.rules.proofs.Frames.Wrote.{Wrote, apart, mixed, mixed-is, wrote-none, wrote-poke, wrote-pull}
+use Rattle.rules.proofs.Frames.Wrote.{Wrote, apart, mixed, mixed-is}
 use Rattle.rules.proofs.Kept.Messages.{filled, ink, unfilled, wipe, wipe-is}
-use Rattle.rules.proofs.Kept.Values.{audience-may, audience-unread, issue-is, retire-bus, retire-count, retire-is, retire-keeps, row-room, value-at, value-below}
-use Rattle.rules.proofs.Kept.Clauses.{length-fits, read-back, read-down, values-fit}
-use Rattle.rules.proofs.Kept.Owners.{all-datas, boxes-exact, datas-arrived, free-no-value, held-few, occurs-column, owned, owner-else, owner-fresh, owner-some, sole, upTo-length, values-exact}
+use Rattle.rules.proofs.Kept.Values.{audience-may, audience-unread, issue-is, issue-text, retire-bus, retire-count, retire-is, retire-keeps, row-next, wrote-retire}
+use Rattle.rules.proofs.Kept.Clauses.{length-fits, read-back, read-down}
+use Rattle.rules.proofs.Kept.Owners.{all-datas, boxes-exact, datas-arrived, free-no-value, owned, owner-else, owner-fresh, owner-some, sole}
+use Rattle.rules.proofs.Kept.Row.{row-fits, value-at, value-below, value-there, value-used, values-at, values-listed, values-long, values-row}
 use Rattle.rules.proofs.Lists.Columns.{other, set-zero}
-use Rattle.rules.proofs.Lists.Messages.{Written, bytesAt, header-same, text-same, written}
-use Rattle.rules.proofs.Lists.Values.{anew, ascending-snoc, ascending-without, map-at, map-upTo, map-without, those-gone, those-stays, upTo-at}
+use Rattle.rules.proofs.Lists.Messages.{bytesAt, header-same, text-same}
+use Rattle.rules.proofs.Lists.Values.{anew, ascending-snoc, ascending-without, map-at, map-without, those-gone, those-stays, upTo-at, upTo-length}
 use Rattle.rules.proofs.Lists.Ties.{down, used-inside}
-use Rattle.rules.proofs.Reckoned.Ledger.{listed-used, map-same-on}
+use Rattle.rules.proofs.Reckoned.Ledger.{map-same-on}
 use Rattle.rules.proofs.Reckoned.Parts.{links-same, living, monitors-same, parts, people-same, time-same}
 use Rattle.rules.proofs.Reckoned.Pools.{things-begin}
 
@@ -54,7 +54,7 @@ module _ {ws : List ℕ} {s t : State} (w : Wrote ws s t) where
   made-still {bs = bs} e m = subst (λ (x : State). bs ≡ map (busAt x) (upTo (head x BUSES))) (mixed-is (BUSES ∷ BUS-SIZE ∷ BUS-SEATS ∷ BUS-READS ∷ BUS-AGE ∷ []) w e) m
 
   -- of who sits in a list of seats
-  pub readers-still : {xs : List Reader} (cursor : ℕ → ℕ) (seats : List ℕ) → apart (SEAT ∷ AGE ∷ []) ws ≡ true → xs ≡ map (readerAt s cursor) seats → xs ≡ map (readerAt t cursor) seats
+  readers-still : {xs : List Reader} (cursor : ℕ → ℕ) (seats : List ℕ) → apart (SEAT ∷ AGE ∷ []) ws ≡ true → xs ≡ map (readerAt s cursor) seats → xs ≡ map (readerAt t cursor) seats
   unfolding mixed
   readers-still {xs = xs} cursor seats e m = subst (λ (x : State). xs ≡ map (readerAt x cursor) seats) (mixed-is (SEAT ∷ AGE ∷ []) w e) m
 
@@ -74,7 +74,7 @@ pub record Alone (d : ℕ) (s t : State) : Type 0 where
   pub bytes : (x : ℕ) → eqb x d ≡ false → bytesAt (t PAYLOAD) x ≡ bytesAt (s PAYLOAD) x
 
 -- no message is in it
-abbrev pub Unsent : ℕ → State → Type 0
+abbrev Unsent : ℕ → State → Type 0
 Unsent d s = (c e : ℕ) → sole c OWNERS ≡ true → eqb c ISSUE ≡ false → 1 ≤ at s c e → eqb (at s c e - 1) d ≡ false
 
 module _ (k : Caps) (s t : State) (g : Good k s) (d : ℕ) (h : Alone d s t) where
@@ -89,7 +89,7 @@ module _ (k : Caps) (s t : State) (g : Good k s) (d : ℕ) (h : Alone d s t) whe
       )
 
   -- and as a value
-  pub value-still : (rank : ℕ → ℕ) (x : ℕ) → eqb x d ≡ false → valueSaid s rank x ≡ valueSaid t rank x
+  value-still : (rank : ℕ → ℕ) (x : ℕ) → eqb x d ≡ false → valueSaid s rank x ≡ valueSaid t rank x
   value-still rank x q =
       rw (
         h .bus x q,
@@ -123,57 +123,6 @@ module _ (k : Caps) (s t : State) (g : Good k s) (d : ℕ) (h : Alone d s t) whe
     agrees-values b x =
         parts w r (people-same w (living w refl) refl (r .people)) mail-still (time-same w refl (r .time)) (links-same w refl (r .links)) (monitors-same w refl (r .monitors)) x
 
--- ---- the row of values in a sound state
-module _ (k : Caps) (s : State) (g : Good k s) where
-  -- its words are no more than there are
-  row-fits : head s ISSUED ≤ length (s ISSUE)
-  row-fits = omega (arith, values-fit g, g .sized .words ISSUE (lit< tt))
-
-  -- the values are its first words, one down
-  pub values-row : valuesIn s ≡ map (λ w. w - 1) (take (head s ISSUED) (s ISSUE))
-  values-row = map-upTo (λ w. w - 1) (s ISSUE) (head s ISSUED) row-fits
-
-  -- there are as many as the head says
-  pub values-long : length (valuesIn s) ≡ head s ISSUED
-  values-long = length-map (upTo (head s ISSUED)) (valueAt s) ∙ upTo-length (head s ISSUED)
-
-  -- the j-th
-  pub values-at : (j : ℕ) → j < head s ISSUED → getD (valuesIn s) j 0 ≡ valueAt s j
-  values-at j h =
-      rw values-row (map-at (λ w. w - 1) (take (head s ISSUED) (s ISSUE)) j 0 0 (omega (arith, length-take-le (head s ISSUED) (s ISSUE) row-fits))
-      ∙ ap (λ (w : ℕ). w - 1) (getD-take (head s ISSUED) (s ISSUE) j 0 h))
-
-  -- it stands among them
-  pub value-stands : (j : ℕ) → j < head s ISSUED → 0 < occurs (valueAt s j) (valuesIn s)
-  value-stands j h = occurs-pos (valueAt s j) (valuesIn s) j (omega (arith, values-long)) (values-at j h)
-
-  -- they are the data entries with a bus, each once
-  pub values-listed : Exact (valuesIn s) (λ d. not (unused (s VALUE-BUS) d))
-  values-listed d =
-      occurs-column d (s ISSUE) (upTo (head s ISSUED)) (values-exact k s g)
-      ∙ split (ltb d (k .datas))
-      (λ q. g .issued d (ltb-true _ _ q))
-      (λ q. let m = ltb-false d (k .datas) q in
-      let z : at s VALUE-BUS d ≡ 0 = List·getD-eq-default (s VALUE-BUS) 0 {n = d} (omega (arith, g .sized .words VALUE-BUS (lit< tt))) in
-      rw z (omega (arith, held-few k s OWNERS (owned k s g .names) d m)))
-
-  -- what stands among them has a bus, and is a data entry
-  pub value-used : (d : ℕ) → 0 < occurs d (valuesIn s) → (at s VALUE-BUS d ≡ 0 → ⊥) × (d < k .datas)
-  value-used = listed-used (s VALUE-BUS) (valuesIn s) (k .datas) (g .sized .words VALUE-BUS (lit< tt)) values-listed
-
-  -- and what has a bus stands among them
-  pub used-value : (d : ℕ) → (at s VALUE-BUS d ≡ 0 → ⊥) → (j : ℕ) × (j < head s ISSUED) × (valueAt s j ≡ d)
-  used-value d n =
-      let p = occurs-place d (valuesIn s) (rw (values-listed d, ne-eqb (at s VALUE-BUS d) 0 n) (omega arith)) in
-      let h : p .0 < head s ISSUED = omega (arith, p .1, values-long) in
-      (p .0, h, sym (values-at (p .0) h) ∙ p .2)
-
-  -- two of the row are one where their data entries are
-  pub value-once : (i j : ℕ) → i < head s ISSUED → j < head s ISSUED → valueAt s i ≡ valueAt s j → i ≡ j
-  value-once i j l m e =
-      occurs-once (valueAt s j) (valuesIn s) (omega (arith, values-listed (valueAt s j), flag≤ (not (unused (s VALUE-BUS) (valueAt s j))))) i j
-      (omega (arith, values-long)) (omega (arith, values-long)) (values-at i l ∙ e) (values-at j m)
-
 -- ---- a value ends
 module _ (k : Caps) (s : State) (g : Good k s) (j : ℕ) (jl : j < head s ISSUED) where
   -- every other data entry is as it was
@@ -189,13 +138,6 @@ module _ (k : Caps) (s : State) (g : Good k s) (j : ℕ) (jl : j < head s ISSUED
         published = other (s PUBLISHED) d 0;
         bytes = wipe-is k s d (g .sized) (value-below k s g j jl) .apart;
       })
-
-  -- the columns of values are written
-  wrote-retire : Wrote AIRED s (retire s j)
-  unfolding retire unfill write poke with-col freeBit
-  wrote-retire =
-      let d = valueAt s j in
-      wrote-pull (wrote-poke (wrote-poke (wrote-poke (wrote-unfill (wrote-none s) d) VALUE-BUS d 0) READERS d 0) PUBLISHED d 0) ISSUE ISSUED j jl (row-fits k s g)
 
   -- the row closes up
   retire-values : valuesIn (retire s j) ≡ without j (valuesIn s)
@@ -235,7 +177,7 @@ module _ (k : Caps) (s : State) (g : Good k s) (j : ℕ) (jl : j < head s ISSUED
     retired-buses =
         let b = r .buses in
         let h = retire-alone in
-        let w = wrote-retire in
+        let w = wrote-retire k s g j jl in
         let listed = retire-values in
         record {
           made = made-still w refl (b .made);
@@ -247,7 +189,8 @@ module _ (k : Caps) (s : State) (g : Good k s) (j : ℕ) (jl : j < head s ISSUED
           allSeats = rw (w .cols SEAT refl) (b .allSeats);
           cursor = b .cursor;
           readers = readers-still w (b .cursor) (b .seats) refl (b .readers);
-          ascending = rw (listed, map-without (b .rank) j (valuesIn s)) (ascending-without (map (b .rank) (valuesIn s)) j (omega (arith, length-map (valuesIn s) (b .rank), values-long k s g)) (b .ascending));
+          ascending = rw (listed, map-without (b .rank) j (valuesIn s))
+              (ascending-without (map (b .rank) (valuesIn s)) j (omega (arith, length-map (valuesIn s) (b .rank), values-long k s g)) (b .ascending));
           before = λ d n. let q = retire-used d n in b .before d (λ z. n (h .bus d q ∙ z));
           came = λ i n. b .came i (λ z. n (rw (w .cols SEAT refl) z));
           unread = λ c n d m i e.
@@ -257,7 +200,7 @@ module _ (k : Caps) (s : State) (g : Good k s) (j : ℕ) (jl : j < head s ISSUED
 
     -- THE THEOREM of a value that ends: the reckoning's values are without it
     pub retire-agrees : Agrees k (withValues l (without j (l .buses .values))) (retire s j)
-    retire-agrees = agrees-values k s (retire s j) g (valueAt s j) retire-alone (retire-keeps k s g j jl) wrote-retire value-unsent l r _ retired-buses
+    retire-agrees = agrees-values k s (retire s j) g (valueAt s j) retire-alone (retire-keeps k s g j jl) (wrote-retire k s g j jl) value-unsent l r _ retired-buses
 
 -- ---- the buses and the values of the reckoning, one by one
 module _ (k : Caps) (l : Ledger) (s : State) (g : Good k s) (r : Agrees k l s) where
@@ -270,11 +213,11 @@ module _ (k : Caps) (l : Ledger) (s : State) (g : Good k s) (r : Agrees k l s) w
   bus-is b h = rw (r .buses .made) (map-at (busAt s) (upTo (head s BUSES)) b 0 _ (omega (arith, upTo-length (head s BUSES))) ∙ ap (busAt s) (upTo-at (head s BUSES) b h))
 
   -- there are as many values
-  pub values-count : length (l .buses .values) ≡ head s ISSUED
+  values-count : length (l .buses .values) ≡ head s ISSUED
   values-count = rw (r .buses .values, length-map (valuesIn s) (valueSaid s (r .buses .rank))) (values-long k s g)
 
   -- the j-th
-  pub value-is : (j : ℕ) (v : Value) → j < head s ISSUED → getD (l .buses .values) j v ≡ valueSaid s (r .buses .rank) (valueAt s j)
+  value-is : (j : ℕ) (v : Value) → j < head s ISSUED → getD (l .buses .values) j v ≡ valueSaid s (r .buses .rank) (valueAt s j)
   value-is j v h =
       rw (r .buses .values) (map-at (valueSaid s (r .buses .rank)) (valuesIn s) j 0 v (omega (arith, values-long k s g)) ∙ ap (valueSaid s (r .buses .rank)) (values-at k s g j h))
 
@@ -288,16 +231,16 @@ module _ (k : Caps) (l : Ledger) (s : State) (g : Good k s) (r : Agrees k l s) w
   pub stale-same : (j : ℕ) → j < head s ISSUED → stale l (valueSaid s (r .buses .rank) (valueAt s j)) ≡ isStale s j
   stale-same j h =
       let d = valueAt s j in
-      rw (bus-is (at s VALUE-BUS d - 1) (value-bus d (value-used k s g d (value-stands k s g j h) .0)), r .time .clock)
+      rw (bus-is (at s VALUE-BUS d - 1) (value-bus d (value-there k s g j h)), r .time .clock)
 
 -- ---- "Entries that have reached their age end"
--- the reckoning without those among the first n
-abbrev young : ℕ → Ledger → Ledger
-young n l = withValues l (those (λ v. not (stale l v)) (take n (l .buses .values)) ++ drop n (l .buses .values))
+-- the reckoning without the stale ones among the first n
+abbrev airedFirst : ℕ → Ledger → Ledger
+airedFirst n l = withValues l (those (λ v. not (stale l v)) (take n (l .buses .values)) ++ drop n (l .buses .values))
 
 -- what is so once those among the first n have ended
 abbrev Airs : ℕ → Type 0
-Airs n = (k : Caps) (l : Ledger) (s : State) → Good k s → Agrees k l s → n ≤ head s ISSUED → Agrees k (young n l) (airing n s)
+Airs n = (k : Caps) (l : Ledger) (s : State) → Good k s → Agrees k l s → n ≤ head s ISSUED → Agrees k (airedFirst n l) (airing n s)
 
 -- none is among none
 airs-none : Airs 0
@@ -330,15 +273,12 @@ aired-agrees k l s g r =
     let vs = l .buses .values in
     let n = values-count k l s g r in
     subst (λ (xs : List Value). Agrees k (withValues l xs) (aired s))
-    (ap₂ (λ (x y : List Value). those (λ v. not (stale l v)) x ++ y) (take-all (head s ISSUED) vs (omega arith)) (drop-of-length-le vs {i = head s ISSUED} (omega arith)) ∙ append-nil (those (λ v. not (stale l v)) vs))
+    (ap₂ (λ (x y : List Value). those (λ v. not (stale l v)) x ++ y) (take-all (head s ISSUED) vs (omega arith)) (drop-of-length-le vs {i = head s ISSUED} (omega arith))
+    ∙ append-nil (those (λ v. not (stale l v)) vs))
     (airs (head s ISSUED) k l s g r (omega arith))
 
 -- ---- a value begins
 module _ (k : Caps) (s : State) (g : Good k s) (d : ℕ) (below : d < k .datas) (df : free (s DATA-FREE) d ≡ true) (b : ℕ) (payload : List ℕ) (short : length payload ≤ PAYLOAD-MOST) where
-  -- its entry has its bytes
-  issue-text : Written (s PAYLOAD) (ink s d 0 payload) d 0 payload
-  issue-text = written (s PAYLOAD) payload d 0 (omega (arith, g .sized .bytes)) (lit< tt) short (g .datas d below .0 df .1)
-
   -- every other is as it was
   issue-alone : Alone d s (issue s d b payload)
   unfolding push poke with-col takeBit
@@ -349,7 +289,7 @@ module _ (k : Caps) (s : State) (g : Good k s) (d : ℕ) (below : d < k .datas) 
         bus = λ x q. other (s VALUE-BUS) d (suc b) x q;
         readers = λ x q. other (s READERS) d (audience s b MOST-SEATS) x q;
         published = λ x q. other (s PUBLISHED) d (head s CLOCK) x q;
-        bytes = issue-text .apart;
+        bytes = issue-text k s g d below df payload short .apart;
       })
 
   -- no message is in it
@@ -361,11 +301,10 @@ module _ (k : Caps) (s : State) (g : Good k s) (d : ℕ) (below : d < k .datas) 
   unfolding poke with-col takeBit
   issue-values good =
       let u : State = poke (poke (poke (filled s d 0 (length payload) (ink s d 0 payload)) VALUE-BUS d (suc b)) READERS d (audience s b MOST-SEATS)) PUBLISHED d (head s CLOCK) in
-      let room : head s ISSUED < length (s ISSUE) = omega (arith, row-room k s g d below df, g .sized .words ISSUE (lit< tt)) in
       let good′ : Good k (push u ISSUE ISSUED (suc d)) = rw (issue-is s d b payload) at good in
       rw (issue-is s d b payload)
       (values-row k (push u ISSUE ISSUED (suc d)) good′
-      ∙ ap (map (λ w. w - 1)) (push-joins u ISSUE ISSUED refl (suc d) (g .sized .words ISSUED (lit< tt)) room)
+      ∙ ap (map (λ w. w - 1)) (push-joins u ISSUE ISSUED refl (suc d) (g .sized .words ISSUED (lit< tt)) (row-next k s g d below df))
       ∙ map-append (λ w. w - 1) (take (head s ISSUED) (s ISSUE)) (suc d ∷ [])
       ∙ ap₂ (λ (x : List ℕ) (y : ℕ). x ++ (y ∷ [])) (sym (values-row k s g)) (down d))
 
@@ -379,7 +318,7 @@ module _ (k : Caps) (s : State) (g : Good k s) (d : ℕ) (below : d < k .datas) 
         read-back g LENGTH d (length payload) tt below,
         read-back g PUBLISHED d (head s CLOCK) tt below,
         read-back g READERS d (audience s b MOST-SEATS) tt below,
-        issue-text .text,
+        issue-text k s g d below df payload short .text,
         count-none (hasRead (audience s b MOST-SEATS)) MOST-SEATS (λ n h. ap (λ (x : ℕ). eqb x 1) (audience-unread s b MOST-SEATS n h)),
       )
 

@@ -111,10 +111,10 @@ line-refused (op o) = λ w p r w′ p′ m e.
 unmet-zeros : (o : Op) → ((k : Caps) (s : State) → let x = say (entry o .shape) (entry o .work k s .ans) in (number x ≡ 0 → ⊥) → x ≡ zeroed x) →
     (w p : List ℕ) (r : Answer) (w′ p′ : List ℕ) → Meets (op o) w p r w′ p′ → (number r ≡ 0 → ⊥) → r ≡ zeroed r
 unmet-zeros o zeros w p r w′ p′ m n =
-    let heard = say (entry o .shape) in
+    let said = say (entry o .shape) in
     split (test (soundRule w p))
     (λ t. let e = called-sound (seven o) (step o) w p (reads (soundRule w p) .0 t) m .0 in
-    rw e (step-all o (capsOf w) (viewOf w p) (λ x. (number (heard (x .ans)) ≡ 0 → ⊥) → heard (x .ans) ≡ zeroed (heard (x .ans)))
+    rw e (step-all o (capsOf w) (viewOf w p) (λ x. (number (said (x .ans)) ≡ 0 → ⊥) → said (x .ans) ≡ zeroed (said (x .ans)))
     (λ y z. refusal-zeroed (entry o .shape) (code y)) (λ q. zeros (capsOf w) (viewOf w p)) (rw e at n)))
     (λ t. rw (called-broken (seven o) (step o) w p (λ h. true-false (test (soundRule w p)) (reads (soundRule w p) .1 h) t) m .0) (refusal-zeroed (entry o .shape) 7))
 

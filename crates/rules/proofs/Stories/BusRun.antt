@@ -40,6 +40,7 @@ BUS-RUN =
     ∷ next ∷ subscribe 1 ∷ exit NORMAL
     ∷ next ∷ advance 1000 ∷ yield ∷ next ∷ []
 
+-- what these calls answer
 abbrev pub BUS-ANSWERS : List Answer
 BUS-ANSWERS =
     made 0 0 ∷ made 0 1 ∷ made 0 64 ∷ made 0 65 ∷ made 0 66
@@ -68,24 +69,25 @@ abbrev pub BUS-RAN : List Line
 BUS-RAN = line (start FEW) (plain 0) ∷ lined BUS-RUN BUS-ANSWERS
 
 -- then 65 reads: a slice of one byte is too short; it reads the value that came after it sat down, which then ends, and nothing else is there for it
-abbrev pub BUS-READS : List Op
-BUS-READS = BUS-RUN ++ (read 1 1 ∷ read 1 2 ∷ read 1 2 ∷ [])
+abbrev pub BUS-RUN-ON : List Op
+BUS-RUN-ON = BUS-RUN ++ (read 1 1 ∷ read 1 2 ∷ read 1 2 ∷ [])
 
-abbrev pub BUS-HEARD : List Answer
-BUS-HEARD = BUS-ANSWERS ++ (copied 1 [] ∷ copied 0 (5 ∷ 6 ∷ []) ∷ copied 5 [] ∷ [])
+-- and what all of them answer
+abbrev pub BUS-ANSWERS-ON : List Answer
+BUS-ANSWERS-ON = BUS-ANSWERS ++ (copied 1 [] ∷ copied 0 (5 ∷ 6 ∷ []) ∷ copied 5 [] ∷ [])
 
 -- by the rules, whatever lies past the needed words and bytes
-computed : (s : State) → lines (capsFrom FEW) (fresh (capsFrom FEW) s) BUS-READS ≡ lined BUS-READS BUS-HEARD
+computed : (s : State) → lines (capsFrom FEW) (fresh (capsFrom FEW) s) BUS-RUN-ON ≡ lined BUS-RUN-ON BUS-ANSWERS-ON
 unfolding airing audience broadcast evict forget issue leaveBuses makeBus readOff retire sitDown standUp ruled lowest occurs le poke with-col freeBit pull push takeBit
     write joins fill least letGo ready unfill cutLink cutLinks cutMonitor cutMonitors endUse dropAll endOwn depart fireAll firstHead loosen vacate rouse run
     fresh freed stated zeroed lines count
 computed s = refl
 
 -- THE THEOREM: on any two buffers that are long enough, whatever they hold, a story with these lines happens
-pub buses-happen : (w p : List ℕ) → needed (capsFrom FEW) ≤ length w → neededP (capsFrom FEW) ≤ length p → Happens w p (line (start FEW) (plain 0) ∷ lined BUS-READS BUS-HEARD)
+pub buses-happen : (w p : List ℕ) → needed (capsFrom FEW) ≤ length w → neededP (capsFrom FEW) ≤ length p → Happens w p (line (start FEW) (plain 0) ∷ lined BUS-RUN-ON BUS-ANSWERS-ON)
 buses-happen w p a b =
     let k = capsFrom FEW in
-    subst (λ (xs : List Line). Happens w p (line (start FEW) (plain 0) ∷ xs)) (computed (view k w p)) (story-happens FEW BUS-READS w p (can-start k w p refl a b))
+    subst (λ (xs : List Line). Happens w p (line (start FEW) (plain 0) ∷ xs)) (computed (view k w p)) (story-happens FEW BUS-RUN-ON w p (can-start k w p refl a b))
 
 -- THE THEOREM: and the reckoning before those reads, whatever was reckoned before the start, is this ledger
 pub buses-reckoned : (l : Ledger) → reckon l BUS-RAN ≡ BUS-LEFT
@@ -99,6 +101,7 @@ BUS-ASKED =
     bus 0 1 0 0 ∷ bus 1 33 0 0 ∷ bus 16 32 32 0 ∷ publish 2 [] ∷ publish 1 [] ∷ subscribe 0 ∷ subscribe 1 ∷ subscribe 2 ∷ unsubscribe 0 ∷ unsubscribe 1
     ∷ read 0 9 ∷ read 1 1 ∷ read 1 2 ∷ []
 
+-- the refusals, or 0 where none is due
 pub bus-refusals : map (λ o. refusalDue BUS-LEFT (op o)) BUS-ASKED ≡ 1 ∷ 1 ∷ 0 ∷ 3 ∷ 0 ∷ 2 ∷ 1 ∷ 3 ∷ 3 ∷ 0 ∷ 3 ∷ 1 ∷ 0 ∷ []
 unfolding first some those oldestUnread
 bus-refusals = refl

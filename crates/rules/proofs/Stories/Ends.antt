@@ -33,7 +33,7 @@ use Rattle.rules.proofs.Lists.Columns.{of-alive}
 use Rattle.rules.proofs.Ends.Departs.{depart-agrees, depart-keeps, depart-leaves-nothing, exit-leaves-nothing}
 use Rattle.rules.specs.Good.{Good}
 use Rattle.rules.proofs.Kept.Host.{good-view, host-keeps}
-use Rattle.rules.proofs.Reckoned.Ledger.{alive-slot, bond-ends, box-owner, clock-owner, eye-ends, id-not-zero, known-same, listed-in, palm-owner, runner-alive, running-is, seat-owner, some-map, some-no, stranger}
+use Rattle.rules.proofs.Reckoned.Ledger.{alive-slot, bond-ends, box-owner, clock-owner, eye-ends, id-not-zero, known-same, palm-owner, runner-alive, running-is, seat-owner, seat-used, some-map, some-no, stranger}
 use Rattle.rules.proofs.Stories.Over.{Over, over-once, over-stays}
 use Rattle.rules.proofs.Kept.Start.{start-refused}
 use Rattle.rules.proofs.Stories.Story.{line-kept, story-kept}
@@ -64,7 +64,7 @@ module _ (k : Caps) (s : State) (l : Ledger) (g : Good k s) (r : Agrees k l s) (
           let b = eye-ends k s g l r i o in rw (another n _ (b .1), another n _ (b .0))));
       readers = rw (r .buses .readers, some-map (λ x. eqb (x .who) id) (readerAt s (r .buses .cursor)) (r .buses .seats))
           (some-no (λ i. eqb (actorId s (at s SEAT i - 1)) id) (r .buses .seats) (λ i o.
-          another n _ (seat-owner k s g i (listed-in (s SEAT) (r .buses .seats) (r .buses .allSeats) i o))));
+          another n _ (seat-owner k s g i (seat-used k s g l r i o))));
       live = n;
     };
     rests = λ e. split (eqb (runner s) 0)
