@@ -24,7 +24,7 @@ written Story.over = []
 written (Story.then {w} {p} {x = x} m s) = encode (length w) (length p) (x .call) (x .answer) ++ written s
 
 -- ---- what a C caller can pass
--- the numbers that are passed: to a start the lengths of both buffers and the six capacities; a payload's length; a signed number as two's complement
+-- the numbers that are passed: to a start the lengths of both buffers and the six capacities; the length of a payload, and of a lent slice; a signed number as two's complement
 abbrev pub passed : ℕ → ℕ → Call → List ℕ
 passed w p (start z) = startArgs w p z
 passed w p (op o) = opening o .numbers
