@@ -226,7 +226,7 @@ module _ (s : State) (b : ℕ) where
       (λ r. rw (step m n r) (add-other x (MOST-SEATS + m) (MOST-SEATS + n) bare (λ z. eqb-false n m r (omega arith)) ∙ audience-may m n))))
 
   -- one more of them is one more bit
-  audience-marks : (m : ℕ) → audience s b (suc m) ≡ cond (eqb (inSeat s b m) 0) (audience s b m) (marked (audience s b m) (MOST-SEATS + m))
+  pub audience-marks : (m : ℕ) → audience s b (suc m) ≡ cond (eqb (inSeat s b m) 0) (audience s b m) (marked (audience s b m) (MOST-SEATS + m))
   unfolding audience
   audience-marks m =
       let bare : bit (audience s b m) (MOST-SEATS + m) ≡ 0 = audience-may m m ∙ rw (le-ltb m m (omega arith)) in
