@@ -95,12 +95,16 @@ fn grown(t: &mut [u64], p: &mut [u8]) {
     ended(t, p);
 }
 
-// Two buses, of three entries and two seats, and of one each; 65 sits on the first one, and has read one of the two values there.
-fn aired(t: &mut [u64], p: &mut [u8]) {
-    let mut slice = [0u8; 2];
+// Two buses, of three entries and two seats, and of one each; 65 sits on the first one.
+fn seated(t: &mut [u64], p: &mut [u8]) {
     fg_bus(t, p, 3, 2, 0, 0);
     fg_bus(t, p, 1, 1, 0, 0);
     fg_subscribe(t, p, 0);
+}
+
+// Two values on the first bus, of which 65 has read one.
+fn aired(t: &mut [u64], p: &mut [u8]) {
+    let mut slice = [0u8; 2];
     fg_publish(t, p, 0, b"20");
     fg_publish(t, p, 0, b"21");
     fg_read(t, p, 0, &mut slice);
@@ -114,5 +118,6 @@ pub fn bring(t: &mut [u64], p: &mut [u8]) {
     tied(t, p);
     told(t, p);
     fg_advance(t, p, 2000);
+    seated(t, p);
     aired(t, p);
 }
