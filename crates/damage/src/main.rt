@@ -163,7 +163,7 @@ fn short_area(n: u64) -> u64 {
 
 // A small runtime with one of everything.
 fn small() {
-    let mut t = [0u64; 256];
+    let mut t = [0u64; 1536];
     let mut p = [0u8; 2048];
     scene::bring(&mut t, &mut p);
     state(&t, &p, b"small");
