@@ -8,7 +8,7 @@ use mathlib.Core.Bool.{true, false, cond, not}
 use mathlib.Core.List.{List, [], _∷_, _++_, map}
 use lib.IntN.{ℤ}
 use lib.ListN.{drop, length, take}
-use lib.Dec.{eqb}
+use lib.Dec.{eqb, leb}
 use Rattle.ledger.specs.Call.{Answer, Call, Line, Op, Sizes, Why, code, counted, number, numbered, refuses, zeroed}
 use Rattle.ledger.specs.Call.Answer.{advanced, copied, ended, made, part, plain, turn}
 use Rattle.ledger.specs.Call.Call.{start, op}
@@ -16,7 +16,7 @@ use Rattle.ledger.specs.Call.Op.{advance, bus, exit, next, publish, read, recei
 use Rattle.ledger.specs.Ended.{Unaimed}
 use Rattle.ledger.specs.Ledger.{Ledger, Message, Value, nothing}
 use Rattle.ledger.specs.Lists.{butFirst, some, those}
-use Rattle.ledger.specs.Reckon.{entered, firedTimers, firings, later, leaf, notices, oneMore, page, readOut, reckon, short, refusalDue}
+use Rattle.ledger.specs.Reckon.{entered, firedTimers, firings, later, leaf, notices, oneMore, page, readOut, reckon, short, refusalDue, stale}
 use Rattle.ledger.specs.Room.{busFull, heard, inHand, known, oldestUnread}
 use Rattle.pools.specs.Pool.{occurs}
 use Rattle.tables.specs.State.{PastSame, capsOf, needed, neededP}
@@ -29,7 +29,6 @@ use Rattle.rules.specs.Calls.{Sleeps}
 use Rattle.rules.specs.Run.{sayShown, seven}
 use Rattle.rules.specs.Story.{Aims, Kept, Meets, Story, capsFor, capsFrom, line, startless}
 use Rattle.rules.specs.Trim.{NeededSame}
-use Rattle.rules.proofs.Frames.Wrote.{All}
 use Rattle.rules.proofs.Reckoned.Counts.{advance-once, line-notices, line-ticks}
 use Rattle.rules.proofs.Stories.Host.{meets-broken, meets-once}
 use Rattle.rules.proofs.Kept.Host.{good-view}
@@ -38,7 +37,7 @@ use Rattle.rules.proofs.Stories.Showing.{show-is-shown}
 use Rattle.rules.proofs.Reckoned.Sleep.{line-sleep}
 use Rattle.rules.proofs.Stories.Story.{begun-kept, story-kept}
 use Rattle.rules.proofs.Stories.Answers.{line-counts, line-in-hand, line-not-new, line-refusal, line-refused, line-seven, line-two, line-unmet, line-unshown}
-use Rattle.rules.proofs.Stories.Buses.{bus-numbered, full-has-room, line-read, nothing-before, publish-ends-oldest, ranks-below, read-out-ends, reads-on, spawned-unsubscribed}
+use Rattle.rules.proofs.Stories.Buses.{ages-end, bus-numbered, full-has-room, line-read, nothing-before, publish-ends-oldest, ranks-known, read-out-ends, reads-on, spawned-unsubscribed}
 use Rattle.rules.proofs.Stories.Ends.{ended-stays-ended, strange-line}
 use Rattle.rules.proofs.Frames.Unread.{fresh-alike, line-unread}
 
@@ -165,9 +164,9 @@ module _ (z : Sizes) {w p w₁ p₁ w₂ p₂ : List ℕ} {xs : List Line} (bega
       (u : Value) × (oldestUnread later b ≡ u ∷ []) × (bytes ≡ u .payload) × (there .buses .published ≤ u .rank)
   no-history b = nothing-before b there demand-three
 
-  -- where every value there has a lower rank
-  pub ranks-known : All (λ (v : Value). v .rank < there .buses .published) (there .buses .values)
-  ranks-known = ranks-below there w₂ p₂ demand-three
+  -- where no value has a rank as high
+  pub ranks-below-it : some (λ v. leb (there .buses .published) (v .rank)) (there .buses .values) ≡ false
+  ranks-below-it = ranks-known there w₂ p₂ demand-three
 
   -- each reads the values of a bus in the order of publishing, none twice: what one reads there after another has a higher rank, whatever happens between, until a new start
   pub reads-in-order : (b before : ℕ) (first : List ℕ) {w₃ p₃ w₄ p₄ : List ℕ} {ys : List Line} → Meets (op (read b before)) w₂ p₂ (copied 0 first) w₃ p₃ → Story w₃ p₃ ys w₄ p₄ → startless ys ≡ true →
@@ -188,8 +187,13 @@ module _ (z : Sizes) {w p w₁ p₁ w₂ p₂ : List ℕ} {xs : List Line} (bega
 
   -- a value with a limit of reads ends at the read that reaches it
   pub read-out : (b room : ℕ) (bytes : List ℕ) (v : Value) → oldestUnread there b ≡ v ∷ [] → readOut there (oneMore v) ≡ true →
-      All (λ (u : Value). u .rank ≡ v .rank → ⊥) (entered (line (op (read b room)) (copied 0 bytes)) there .buses .values)
+      some (λ u. eqb (u .rank) (v .rank)) (entered (line (op (read b room)) (copied 0 bytes)) there .buses .values) ≡ false
   read-out b room bytes v = read-out-ends b room there w₂ p₂ bytes v demand-three
+
+  -- an advance ends just the values that have reached their age by the clock that it leaves
+  pub ages-ended : (micros n : ℕ) →
+      entered (line (op (advance micros)) (advanced 0 n)) there .buses .values ≡ those (λ v. not (stale (later micros there) v)) (there .buses .values)
+  ages-ended micros n = ages-end micros n there
 
   -- after an exit no bus names the ended actor (`after-exit`: `readers` of `Nothing`), and the next one in its slot is subscribed to nothing
   pub next-unsubscribed : (priority id : ℕ) (w₃ p₃ : List ℕ) → Meets (op (spawn priority)) w₂ p₂ (made 0 id) w₃ p₃ →

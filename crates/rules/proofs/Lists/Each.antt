@@ -59,6 +59,12 @@ module _ {A : Type 0} (P : A → Type 0) where
   all-some p [] h e = true-false false e refl
   all-some p (x ∷ xs) h e = split (p x) (λ q. (x, h .0, q)) (λ q. all-some p xs (h .1) (rw q at e))
 
+-- where none of a list passes, none does
+pub all-none : {A : Type 0} (p : A → Bool) (xs : List A) → All (λ (x : A). p x ≡ false) xs → some p xs ≡ false
+unfolding some
+all-none p [] h = refl
+all-none p (x ∷ xs) h = rw (h .0) (all-none p xs (h .1))
+
 -- another thing, that follows from it
 pub all-then : {A : Type 0} (P Q : A → Type 0) (xs : List A) → ((x : A) → P x → Q x) → All P xs → All Q xs
 all-then P Q [] f h = tt

@@ -43,23 +43,28 @@ unread-beyond n b id l e h =
     let u = and-right (isReader b (l .people .running) x) (unread x v) y in
     omega (arith, m (subst (λ (j : ℕ). isReader b j x ≡ true) e i), leb-true (x .cursor) (v .rank) (and-right (eqb (v .bus) (x .bus)) (leb (x .cursor) (v .rank)) u)))
 
--- ---- timers that fire leave the buses alone
+-- ---- timers that fire leave the buses and the clock alone
 -- one that is armed again, or ends
-rearmed-buses : (l : Ledger) (t : Timer) → rearmed l t .buses ≡ l .buses
+rearmed-still : (l : Ledger) (t : Timer) → (rearmed l t .buses ≡ l .buses) × (rearmed l t .time .clock ≡ l .time .clock)
 unfolding rearmed endTimers
-rearmed-buses l t = split (eqb (t .interval) 0) (λ q. rw q) (λ q. rw q)
+rearmed-still l t = split (eqb (t .interval) 0) (λ q. rw q (refl, refl)) (λ q. rw q (refl, refl))
 
 -- those that fire at one time
-firing-buses : (ts : List Timer) (l : Ledger) → firing ts l .buses ≡ l .buses
+firing-still : (ts : List Timer) (l : Ledger) → (firing ts l .buses ≡ l .buses) × (firing ts l .time .clock ≡ l .time .clock)
 unfolding firing
-firing-buses [] l = refl
-firing-buses (t ∷ ts) l = firing-buses ts (sent (tick t ∷ []) (rearmed l t)) ∙ rearmed-buses l t
+firing-still [] l = (refl, refl)
+firing-still (t ∷ ts) l =
+    let h = firing-still ts (sent (tick t ∷ []) (rearmed l t)) in
+    let e = rearmed-still l t in (h .0 ∙ e .0, h .1 ∙ e .1)
 
 -- all that fire
-fires-buses : (n : ℕ) (l : Ledger) → fires n l .buses ≡ l .buses
+pub fires-still : (n : ℕ) (l : Ledger) → (fires n l .buses ≡ l .buses) × (fires n l .time .clock ≡ l .time .clock)
 unfolding fires
-fires-buses zero l = refl
-fires-buses (suc n) l = let ts = soonest (l .time .clock) (l .time .timers) in fires-buses n (firing ts l) ∙ firing-buses ts l
+fires-still zero l = (refl, refl)
+fires-still (suc n) l =
+    let ts = soonest (l .time .clock) (l .time .timers) in
+    let h = fires-still n (firing ts l) in
+    let e = firing-still ts l in (h .0 ∙ e .0, h .1 ∙ e .1)
 
 -- ---- call by call
 module _ (n b id : ℕ) where
@@ -98,7 +103,7 @@ module _ (n b id : ℕ) where
   page-beyond (monitor x) r m l h = (h, h)
   page-beyond (demonitor x) r m l h = (h, h)
   page-beyond (exit x) r m l h = ((all-those (Further n b id) _ (l .buses .readers) (h .0), h .1), h)
-  page-beyond (advance x) r m l h = (rw (fires-buses (firings (later x l)) (later x l)) h, h)
+  page-beyond (advance x) r m l h = (rw (fires-still (firings (later x l)) (later x l) .0) h, h)
   page-beyond report r m l h = (h, h)
   page-beyond (bus x y z u) r m l h = (h, h)
   page-beyond (publish x y) r m l h = (split (busFull l x) (λ q. rw q (h .0, omega (arith, h .1))) (λ q. rw q (h .0, omega (arith, h .1))), h)

@@ -6,17 +6,17 @@ use mathlib.Core.Logic.{_⊎_, ⊎-elim}
 use mathlib.Core.Bool.{Bool, true, false, cond, not, _&&_}
 use mathlib.Core.List.{List, [], _∷_, _++_, map, map-map}
 use lib.ListN.{length, length-map}
-use lib.Dec.{eqb, ltb, lit<}
-use borrow.Author.Tests.{eqb-false, eqb-true, ne-eqb}
+use lib.Dec.{eqb, ltb, lit<, leb}
+use borrow.Author.Tests.{eqb-false, eqb-true, ne-eqb, lt-leb}
 use Rattle.ledger.specs.Call.{Answer, Line, Op, Why, code, firstYes, idTold, number, numbered, refuses, when}
 use Rattle.ledger.specs.Call.Why.{full, malformed, moment, unknown}
-use Rattle.ledger.specs.Call.Answer.{copied, made, plain}
+use Rattle.ledger.specs.Call.Answer.{copied, made, plain, advanced}
 use Rattle.ledger.specs.Call.Call.{op}
-use Rattle.ledger.specs.Call.Op.{bus, publish, read, spawn, subscribe}
+use Rattle.ledger.specs.Call.Op.{bus, publish, read, spawn, subscribe, advance}
 use Rattle.ledger.specs.Ledger.{Ledger, Value}
 use Rattle.ledger.specs.Limits.{PAYLOAD-MOST}
 use Rattle.ledger.specs.Lists.{butFirst, some, those}
-use Rattle.ledger.specs.Reckon.{entered, evicted, issued, oneMore, readOut, reading, reckon, refusalDue, short}
+use Rattle.ledger.specs.Reckon.{entered, evicted, issued, oneMore, readOut, reading, reckon, refusalDue, short, aired, firings, later, stale}
 use Rattle.ledger.specs.Room.{busFull, datasLeft, heard, idle, isBus, isReader, oldestUnread, subscribed, unread}
 use Rattle.pools.specs.Slot.{ageOf, slotOf}
 use Rattle.pools.proofs.BoolLaws.{split, true-false}
@@ -35,10 +35,10 @@ use Rattle.rules.proofs.Frames.Wrote.{All}
 use Rattle.rules.proofs.Guards.{why-refuses}
 use Rattle.rules.proofs.Kept.Host.{good-view}
 use Rattle.rules.proofs.Kept.Row.{value-there}
-use Rattle.rules.proofs.Reckoned.Cursors.{Beyond, sole-rank, joined-beyond, reading-passes, story-beyond, unread-beyond}
+use Rattle.rules.proofs.Reckoned.Cursors.{Beyond, sole-rank, joined-beyond, reading-passes, story-beyond, unread-beyond, fires-still}
 use Rattle.rules.proofs.Reckoned.Firing.{first-either}
 use Rattle.rules.proofs.Lists.Columns.{alive-below}
-use Rattle.rules.proofs.Lists.Each.{all-first, all-map, all-upTo}
+use Rattle.rules.proofs.Lists.Each.{all-first, all-map, all-upTo, all-none, all-then}
 use Rattle.rules.proofs.Lists.Values.{upTo-length}
 use Rattle.rules.proofs.Reckoned.Ledger.{seat-owner, seat-used, some-map, some-no}
 use Rattle.rules.proofs.Reckoned.Buses.{read-answers}
@@ -97,6 +97,12 @@ ranks-below l w p h =
     subst (λ (vs : List Value). All (λ (v : Value). v .rank < l .buses .published) vs) (sym (u .values))
     (all-map (λ v. v .rank < l .buses .published) (valueSaid s (u .rank)) low (valuesIn s) (λ d m. m)
     (all-map low (valueAt s) (λ i. i < head s ISSUED) (upTo (head s ISSUED)) (λ i q. u .before (valueAt s i) (value-there (capsOf w) s (good-view w p (h .sound)) i q)) (all-upTo (head s ISSUED))))
+
+-- so none is at it or above
+pub ranks-known : (l : Ledger) (w p : List ℕ) → Kept l w p → some (λ v. leb (l .buses .published) (v .rank)) (l .buses .values) ≡ false
+ranks-known l w p h =
+    all-none (λ v. leb (l .buses .published) (v .rank)) (l .buses .values)
+    (all-then (λ v. v .rank < l .buses .published) (λ v. leb (l .buses .published) (v .rank) ≡ false) (l .buses .values) (λ v q. lt-leb (l .buses .published) (v .rank) q) (ranks-below l w p h))
 
 -- who may subscribe was not subscribed
 new-subscriber : (b : ℕ) (l : Ledger) (w p w₁ p₁ : List ℕ) → Meets (op (subscribe b)) w p (plain 0) w₁ p₁ → Kept l w p → subscribed l b ≡ false
@@ -171,6 +177,15 @@ pub publish-ends-oldest : (b : ℕ) (payload : List ℕ) (l : Ledger) →
 unfolding entered issued evicted
 publish-ends-oldest b payload l = split (busFull l b) (λ q. rw q) (λ q. rw q)
 
+-- ---- ageing
+-- THE THEOREM: an advance ends just the values that have reached their age by the clock that it leaves; the others stay as they are, in their order
+pub ages-end : (micros n : ℕ) (l : Ledger) →
+    entered (line (op (advance micros)) (advanced 0 n)) l .buses .values ≡ those (λ v. not (stale (later micros l) v)) (l .buses .values)
+unfolding entered aired
+ages-end micros n l =
+    let h = fires-still (firings (later micros l)) (later micros l) in
+    rw (h .0, h .1)
+
 -- ---- reading often
 -- the ranks of the values ascend
 ranks-ascend : (l : Ledger) (w p : List ℕ) → Kept l w p → Ascending (map (λ v. v .rank) (l .buses .values))
@@ -182,19 +197,19 @@ ranks-ascend l w p h =
 
 -- THE THEOREM: a value with a limit of reads ends at the read that reaches it: none of its rank is left
 pub read-out-ends : (b room : ℕ) (l : Ledger) (w p bytes : List ℕ) (v : Value) → Kept l w p → oldestUnread l b ≡ v ∷ [] → readOut l (oneMore v) ≡ true →
-    All (λ (u : Value). u .rank ≡ v .rank → ⊥) (entered (line (op (read b room)) (copied 0 bytes)) l .buses .values)
+    some (λ u. eqb (u .rank) (v .rank)) (entered (line (op (read b room)) (copied 0 bytes)) l .buses .values) ≡ false
 unfolding entered reading oldestUnread those
-read-out-ends b room l w p bytes v h e q = rw e (left (l .buses .values) (sole-rank _ (l .buses .values) v (ranks-ascend l w p h) e))
+read-out-ends b room l w p bytes v h e q = rw e (all-none (λ u. eqb (u .rank) (v .rank)) _ (left (l .buses .values) (sole-rank _ (l .buses .values) v (ranks-ascend l w p h) e)))
   where
     -- of values of which it alone has its rank
     left : (vs : List Value) → All (λ (u : Value). u .rank ≡ v .rank → u ≡ v) vs →
-        All (λ (u : Value). u .rank ≡ v .rank → ⊥) (those (λ u. not (eqb (u .rank) (v .rank) && readOut l u)) (map (λ u. cond (eqb (u .rank) (v .rank)) (oneMore u) u) vs))
+        All (λ (u : Value). eqb (u .rank) (v .rank) ≡ false) (those (λ u. not (eqb (u .rank) (v .rank) && readOut l u)) (map (λ u. cond (eqb (u .rank) (v .rank)) (oneMore u) u) vs))
     left [] o = tt
     left (x ∷ vs) o =
         split (eqb (x .rank) (v .rank))
         (λ y. let r : readOut l (oneMore x) ≡ true = subst (λ (u : Value). readOut l (oneMore u) ≡ true) (sym (o .0 (eqb-true (x .rank) (v .rank) y))) q in
         rw y (rw (y, r) (left vs (o .1))))
-        (λ y. rw y (rw y (λ z. eqb-false (x .rank) (v .rank) y z, left vs (o .1))))
+        (λ y. rw y (rw y (y, left vs (o .1))))
 
 -- ---- who comes into a slot
 -- THE THEOREM: an actor that is spawned is subscribed to no bus: the next one in a slot has nothing of the one before it
