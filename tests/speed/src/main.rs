@@ -8,6 +8,8 @@
 //! one in its mailbox, and a bus that it can read from, and two actors more; `one left`, all pools full but for one entry of each; `full`.
 
 mod rounds;
+#[cfg(not(self_test))]
+mod searches;
 mod sides;
 mod stage;
 mod timing;
@@ -139,6 +141,14 @@ fn print_worst_calls() {
     row(&worst::buses_aged(), "32 buses, 256 entries at their age", Call::Advance(1_000));
 }
 
+/// A message, which takes the lowest free entry of two pools.
+fn print_far_up() {
+    heading("A message, where so many entries of both pools are taken");
+    for taken in [0, 128, 255] {
+        row(&worst::messages(taken), &format!("{taken} messages"), Call::Notify(Stage::id(0), 1, 8));
+    }
+}
+
 /// A call that tests the buffers and then is refused.
 fn print_pure_test() {
     heading("The test alone: a timer that is not there is cancelled");
@@ -166,7 +176,10 @@ fn print_all() -> ExitCode {
     print_bench_run(&bench_run());
     print_every_call();
     print_worst_calls();
+    print_far_up();
     print_pure_test();
+    #[cfg(not(self_test))]
+    searches::print();
     ExitCode::SUCCESS
 }
 

@@ -71,7 +71,8 @@ fn nothing() -> f64 {
     median((0..999).map(|_| Instant::now().elapsed().as_nanos() as f64).collect())
 }
 
-fn median(mut samples: Vec<f64>) -> f64 {
+/// The one in the middle.
+pub fn median(mut samples: Vec<f64>) -> f64 {
     samples.sort_unstable_by(f64::total_cmp);
     samples[samples.len() / 2]
 }

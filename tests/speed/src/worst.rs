@@ -74,9 +74,15 @@ pub fn deadlines_near() -> Stage {
 
 /// The running actor's mailbox holds all messages, and the last one alone has tag 1.
 pub fn match_is_last() -> Stage {
-    let mut stage = Stage::with_actors(LARGEST, 1);
-    send(&mut stage, LARGEST[1] - 1, false);
+    let mut stage = messages(LARGEST[1] - 1);
     stage.done(Call::Notify(Stage::id(0), 1, 8));
+    stage
+}
+
+/// The running actor's mailbox holds so many messages; nobody else is there.
+pub fn messages(count: u64) -> Stage {
+    let mut stage = Stage::with_actors(LARGEST, 1);
+    send(&mut stage, count, false);
     stage
 }
 
