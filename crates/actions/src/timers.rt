@@ -1,9 +1,10 @@
 // Timers.
+ghost use mathlib.Core.Path.{_≡_};
 ghost use Prim.Native.Nat.{_≤_, _<_, _^_};
-ghost use Rattle.tables.specs.Columns.{CLOCK, INTERVAL, TIMER-AGE};
+ghost use Rattle.tables.specs.Columns.{CLOCK, DUE, INTERVAL, TIMER-AGE};
 ghost use Rattle.tables.specs.Limits.{CLOCK-END, LONGEST, SAFE};
 ghost use Rattle.tables.specs.State.{at, head, Room, RoomWith, Makes};
-ghost use Rattle.rules.specs.Calls.{arm, disarm, rearm};
+ghost use Rattle.rules.specs.Calls.{arm, disarm, nextBeat, rearm};
 use tables::Caps;
 use tables::columns::CLOCK;
 use tables::columns::DUE;
@@ -35,9 +36,17 @@ pub fn disarm(t: &mut [u64], p: &[u8], k: Caps, i: u64)
     put(t, p, k, INTERVAL, i, 0);
 }
 
-// Timer i fires: a one-shot ends, a periodic one is next due an interval from now.
+// The first time past the clock that is a whole number of intervals after a due time that has come.
+fn next_beat(due: u64, interval: u64, clock: u64) -> u64
+    requires { ⌜ (due ≤ clock) × (clock ≤ CLOCK-END) × (1 ≤ interval) × (interval ≤ LONGEST) ⌝ }
+    ensures { λ r. ⌜ r ≡ nextBeat due interval clock ⌝ }
+{
+    due + interval * ((clock - due) / interval + 1)
+}
+
+// Timer i, whose time has come, fires: a one-shot ends, a periodic one is due again on its next beat.
 pub fn rearm(t: &mut [u64], p: &[u8], k: Caps, i: u64)
-    requires { ⌜ RoomWith k (λ s. (head s CLOCK ≤ CLOCK-END) × (at s INTERVAL i ≤ LONGEST)) (now t) (now p) ⌝ }
+    requires { ⌜ RoomWith k (λ s. (at s DUE i ≤ head s CLOCK) × (head s CLOCK ≤ CLOCK-END) × (at s INTERVAL i ≤ LONGEST)) (now t) (now p) ⌝ }
     ensures { λ _. ⌜ Makes k (λ s. rearm s i) (now (t .entry)) (now (p .entry)) (now (t .exit)) (now (p .entry)) ⌝ }
 {
     let interval = get(t, p, k, INTERVAL, i);
@@ -45,6 +54,7 @@ pub fn rearm(t: &mut [u64], p: &[u8], k: Caps, i: u64)
         disarm(t, p, k, i);
         return;
     }
+    let due = get(t, p, k, DUE, i);
     let clock = get(t, p, k, CLOCK, 0);
-    put(t, p, k, DUE, i, clock + interval);
+    put(t, p, k, DUE, i, next_beat(due, interval, clock));
 }

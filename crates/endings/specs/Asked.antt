@@ -3,7 +3,7 @@ use Prim.Native.Nat.{ℕ, _≤_, _<_}
 use mathlib.Core.Path.{_≡_}
 use mathlib.Core.Bool.{true}
 use Rattle.tables.specs.declared.Caps.{Caps}
-use Rattle.tables.specs.Columns.{ARRIVED, CLOCK, INTERVAL, QUEUED, TIMER-AGE, TIMER-OWNER}
+use Rattle.tables.specs.Columns.{ARRIVED, CLOCK, DUE, INTERVAL, QUEUED, TIMER-AGE, TIMER-OWNER}
 use Rattle.tables.specs.Limits.{CLOCK-END, LONGEST, MOST-ACTORS, OLDEST, SAFE, TIMER-FACTOR}
 use Rattle.tables.specs.State.{State, at, head}
 use Rattle.rules.specs.Actions.{hasRoom}
@@ -22,6 +22,7 @@ pub record Fires (k : Caps) (s : State) (i : ℕ) : Type 0 where
   pub owned : 1 ≤ at s TIMER-OWNER i
   pub owner : at s TIMER-OWNER i ≤ MOST-ACTORS
   pub age : at s TIMER-AGE i ≤ OLDEST
+  pub come : at s DUE i ≤ head s CLOCK
   pub clock : head s CLOCK ≤ CLOCK-END
   pub interval : at s INTERVAL i ≤ LONGEST
 

@@ -1,4 +1,5 @@
 -- The tables hold what the reckoning says, action by action and call by call.
+pub mod Beats
 pub mod Buses
 pub mod Clock
 pub mod Counts

@@ -31,15 +31,16 @@ use Rattle.rules.specs.Calls.{Ans, Out, Shape, entry, firstHead, firstMa
 use Rattle.rules.specs.Calls.Shape.{aNumber, anId, aTurn, aMessage, aPart, aPlace, anEnd, anAdvance, aReport, aCopy}
 use Rattle.rules.specs.Run.{numbers, said, say, step}
 use Rattle.rules.proofs.Reckoned.Clock.{advance-agrees, advance-counts, advance-keeps, advance-same}
-use Rattle.rules.proofs.Frames.Pools.{use-begins, use-ends}
-use Rattle.rules.proofs.Frames.Ages.{framed, spawn-framed}
+use Rattle.rules.proofs.Frames.Pools.{use-ends}
+use Rattle.rules.proofs.Frames.Ages.{after-framed, every-framed, framed, monitor-framed, spawn-framed}
 use Rattle.rules.proofs.Frames.Buses.{AIRED, beside-broadcast, beside-readOff, wrote-makeBus, wrote-sitDown, wrote-standUp}
-use Rattle.rules.proofs.Frames.Calls.{beside-advance, beside-arm, beside-link, beside-next, beside-receive}
-use Rattle.rules.proofs.Claims.{Agreed, Counted, Framed, Keeps, Silent, Speaks, Tested}
+use Rattle.rules.proofs.Frames.Calls.{beside-advance, beside-link, beside-next, beside-receive}
+use Rattle.rules.proofs.Claims.{AGES, Agreed, Counted, Framed, Grown, Keeps, Silent, Speaks, Tested}
 use Rattle.rules.proofs.Ends.Departs.{beside-depart, exit-agrees, exit-counts, exit-keeps, exit-same}
 use Rattle.rules.proofs.Reckoned.Firing.{some-then}
+use Rattle.rules.proofs.Lists.Each.{all-one}
 use Rattle.rules.proofs.Lists.Notices.{some-those}
-use Rattle.rules.proofs.Frames.Wrote.{Beside, beside-of, beside-still, wrote-none, wrote-poke}
+use Rattle.rules.proofs.Frames.Wrote.{Beside, beside-of, beside-still, mem, wrote-none, wrote-poke}
 use Rattle.rules.proofs.Frames.Actions.{wrote-post, wrote-ready, wrote-tie}
 use Rattle.rules.specs.Good.{Good}
 use Rattle.rules.proofs.Guards.{Passed, found-well, guarded-all, guarded-heard, guarded-numbers, guarded-yes, oneOf, why-found, why-refuses}
@@ -175,10 +176,10 @@ proved shown =
     (framed shown (λ k s. beside-still [] s) refl) (quietly shown (λ r l. (refl, refl, refl, refl)))
 proved (after n) =
     row (after n) (λ k s. (refl, refl)) (λ k s l g a p. refl) (inl (λ m. refl)) (after-keeps n) (after-agrees n) (after-same n)
-    (framed (after n) (beside-arm n 0 (ltb LONGEST n)) refl) (quietly (after n) (λ r l. (refl, refl, refl, refl)))
+    (after-framed n) (quietly (after n) (λ r l. (refl, refl, refl, refl)))
 proved (every n) =
     row (every n) (λ k s. (refl, refl)) (λ k s l g a p. refl) (inl (λ m. refl)) (every-keeps n) (every-agrees n) (every-same n)
-    (framed (every n) (beside-arm n n (eqb n 0 || ltb LONGEST n)) refl) (quietly (every n) (λ r l. (refl, refl, refl, refl)))
+    (every-framed n) (quietly (every n) (λ r l. (refl, refl, refl, refl)))
 proved (cancel id) =
     row (cancel id) (λ k s. (refl, refl)) (λ k s l g a p. refl) (inl (λ m. refl)) (cancel-keeps id) (cancel-agrees id) (cancel-same id)
     (framed (cancel id) (λ k s. beside-of (use-ends timerPool s _ .wrote)) refl) (quietly (cancel id) (λ r l. (refl, refl, refl, refl)))
@@ -191,7 +192,7 @@ proved (unlink id) =
     (framed (unlink id) (λ k s. beside-of (wrote-tie (wrote-none s) _ 0 0)) refl) (quietly (unlink id) (λ r l. (refl, refl, refl, refl)))
 proved (monitor id) =
     row (monitor id) (λ k s. (refl, refl)) (λ k s l g a p. refl) (inl (λ m. refl)) (monitor-keeps id) (monitor-agrees id) (monitor-same id)
-    (framed (monitor id) (λ k s. beside-of (use-begins monitorPool s _ _ _ refl refl .wrote)) refl) (quietly (monitor id) (λ r l. (refl, refl, refl, refl)))
+    (monitor-framed id) (quietly (monitor id) (λ r l. (refl, refl, refl, refl)))
 proved (demonitor id) =
     row (demonitor id) (λ k s. (refl, refl)) (λ k s l g a p. refl) (inl (λ m. refl)) (demonitor-keeps id) (demonitor-agrees id) (demonitor-same id)
     (framed (demonitor id) (λ k s. beside-of (use-ends monitorPool s _ .wrote)) refl) (quietly (demonitor id) (λ r l. (refl, refl, refl, refl)))
@@ -279,9 +280,9 @@ module _ (o : Op) where
       (λ y e. ⊎-elim (λ h. absurd (eqb-false (code y) 0 (why-found y all) (sym (h (code y)) ∙ e))) (λ h. h .bare (refusal (entry o .shape) (code y)) l) (proved o .speaks))
       (λ p e. proved o .counts k s l g a p)
 
-  -- it lowers no age
-  pub ages-grow : (k : Caps) (s : State) (a : ℕ) → at s AGE a ≤ at (step o k s .state) AGE a
-  ages-grow k s a = step-all k s (λ x. at s AGE a ≤ at (x .state) AGE a) (λ y. omega arith) (λ p. proved o .leaves .ages k s a)
+  -- it lowers no age, of whatever pool
+  pub ages-grow : (c : ℕ) → mem c AGES ≡ true → (k : Caps) (s : State) → Grown s (step o k s .state) c
+  ages-grow c m k s = step-all k s (λ x. Grown s (x .state) c) (λ y i. omega arith) (λ p. all-one (Grown s (entry o .work k s .state)) AGES (proved o .leaves .ages k s) c m)
 
   -- it leaves alone all but the columns that it writes
   pub step-frame : (k : Caps) (s : State) → Beside (proved o .leaves .writes) s (step o k s .state)

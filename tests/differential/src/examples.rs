@@ -118,6 +118,7 @@ pub fn compare_examples() -> Checked {
     one_mailbox()?;
     notice_lost()?;
     sleeps()?;
+    metronome()?;
     limits()?;
     bench_run()?;
     no_history()?;
@@ -172,6 +173,22 @@ fn sleeps() -> Checked {
     let mut bench = Bench::running("nothing due", LARGEST, 1)?;
     bench.expect(receive_any(-1), nothing_received(WAITING))?;
     bench.expect(Call::Next, sleep(-1))
+}
+
+/// A timer armed at 0 with 10,000 that fires 3,000 late is next due at 20,000, and the beats of 30,000 and 40,000 give one tick.
+fn metronome() -> Checked {
+    let mut bench = Bench::running("a metronome without drift", LARGEST, 1)?;
+    let ticked = Answer::Turn(Turn { no: DONE, id: 64, reason: 1, sleep: 0 });
+    bench.expect(Call::Every(10_000), made(64))?;
+    bench.expect(receive_any(-1), nothing_received(WAITING))?;
+    for (step, until_next) in [(13_000, 7_000), (7_000, 10_000), (22_000, 8_000)] {
+        bench.expect(Call::Advance(step), Answer::Advanced(Advanced { no: DONE, fired: 1 }))?;
+        bench.expect(Call::Next, ticked.clone())?;
+        bench.expect(receive_any(0), received(0, TIMER, 0, 8))?;
+        bench.expect(receive_any(-1), nothing_received(WAITING))?;
+        bench.expect(Call::Next, sleep(until_next))?;
+    }
+    Ok(())
 }
 
 fn limits() -> Checked {

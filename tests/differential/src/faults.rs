@@ -21,7 +21,9 @@ pub const NAMES: [&str; 33] = [
     "wakes-on-any-message",
     "head-instead-of-match",
     "yield-to-the-head",
-    "due-from-the-old-due-time",
+    "due-from-the-clock",
+    "due-a-beat-early",
+    "due-a-beat-late",
     "age-not-raised",
     "worn-slot-taken",
     "freed-bytes-stay",
@@ -192,7 +194,9 @@ pub fn after(call: &Call, old: &State, new: &mut State) {
         "exit" if is("notices-before-clearing") => free_room(new),
         "notify" if is("wakes-on-any-message") => wake_all_with_mail(new),
         "yield" if is("yield-to-the-head") => new.queue.rotate_right(1),
-        "advance" if is("due-from-the-old-due-time") => count_from_old_due(old, new),
+        "advance" if is("due-from-the-clock") => move_beats(old, new, |_, clock, interval| clock + interval),
+        "advance" if is("due-a-beat-early") => move_beats(old, new, |due, _, interval| due - interval),
+        "advance" if is("due-a-beat-late") => move_beats(old, new, |due, _, interval| due + interval),
         "spawn" if is("age-not-raised") => lower_new_ages(old, new),
         _ => {}
     }
@@ -227,11 +231,12 @@ fn wake_all_with_mail(state: &mut State) {
     }
 }
 
-fn count_from_old_due(old: &State, new: &mut State) {
+/// Gives each periodic timer that fired another due time: from the right one, the clock and the interval.
+fn move_beats(old: &State, new: &mut State, moved: fn(u64, u64, u64) -> u64) {
     for (slot, timer) in new.timers.slots.iter_mut().enumerate() {
         let (Some(before), Some(now)) = (old.timers.get(slot), timer.held.as_mut()) else { continue };
         if let (Some(interval), true) = (now.interval, before.due != now.due) {
-            now.due = before.due + interval;
+            now.due = moved(now.due, new.clock, interval);
         }
     }
 }

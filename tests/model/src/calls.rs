@@ -413,7 +413,7 @@ fn fire_timers(state: &mut State) -> u64 {
     fired
 }
 
-/// Queues one timer's tick; a one-shot ends, a periodic one is armed again from the clock.
+/// Queues one timer's tick; a one-shot ends, a periodic one is due again at its next beat.
 fn fire(state: &mut State, slot: usize) {
     let id = state.timers.id(slot);
     let timer = *state.timers.get(slot).expect("due timers are live");
@@ -423,9 +423,15 @@ fn fire(state: &mut State, slot: usize) {
         None => drop(state.timers.release(slot)),
         Some(interval) => {
             let clock = state.clock;
-            state.timers.get_mut(slot).expect("due timers are live").due = clock + interval;
+            state.timers.get_mut(slot).expect("due timers are live").due = next_beat(timer.due, interval, clock);
         }
     }
+}
+
+/// The first time past the clock that lies a whole number of intervals after a due time that has come.
+fn next_beat(due: u64, interval: u64, clock: u64) -> u64 {
+    let since_last_beat = (clock - due) % interval;
+    clock - since_last_beat + interval
 }
 
 /// Makes those runnable whose deadline has come, by deadline and slot.

@@ -181,9 +181,46 @@ fn ticks_come_before_deadlines_and_a_periodic_timer_ticks_once() {
     assert_eq!(m.advance(5_000), Advanced { no: DONE, fired: 1 });
     assert_eq!(m.next().reason, 1);
     assert_eq!(any(&mut m, 0), Received { no: DONE, sender: 0, class: 3, tag: 0, length: 8 });
-    assert_eq!(m.state.as_ref().unwrap().timers.get(0).unwrap().due, 5_010);
+    assert_eq!(due(&m, 0), 5_010);
     assert_eq!(m.cancel(64), DONE);
     assert_eq!(m.cancel(64), UNKNOWN);
+}
+
+fn due(m: &Model, slot: usize) -> u64 {
+    m.state.as_ref().unwrap().timers.get(slot).unwrap().due
+}
+
+#[test]
+fn a_metronome_that_fires_late_keeps_its_beat() {
+    let mut m = running(LARGE, 1);
+    assert_eq!(m.every(10_000).id, 64);
+    for (step, fired, next) in [(13_000, 1, 20_000), (6_999, 0, 20_000), (1, 1, 30_000), (75_000, 1, 100_000), (4_999, 0, 100_000)] {
+        assert_eq!(m.advance(step).fired, fired);
+        assert_eq!(due(&m, 0), next);
+    }
+}
+
+#[test]
+fn a_metronome_without_room_stays_due_and_then_skips_to_its_beat() {
+    let mut m = running([1, 1, 1, 0, 0, 1], 1);
+    assert_eq!(m.every(10).id, 64);
+    assert_eq!(m.notify(64, 0, &[]), DONE);
+    assert_eq!(m.advance(35).fired, 0);
+    assert_eq!(due(&m, 0), 10);
+    assert_eq!(any(&mut m, 0).no, DONE);
+    assert_eq!(any(&mut m, 0).no, NOTHING);
+    assert_eq!(m.advance(0).fired, 1);
+    assert_eq!(due(&m, 0), 40);
+}
+
+#[test]
+fn no_due_time_is_past_the_limit() {
+    let mut m = running(LARGE, 1);
+    m.state.as_mut().unwrap().clock = MAX_CLOCK - MAX_STEP;
+    assert_eq!(m.every(MAX_STEP).id, 64);
+    assert_eq!(m.advance(MAX_STEP).fired, 1);
+    assert_eq!(due(&m, 0), MAX_CLOCK + MAX_STEP);
+    assert!(due(&m, 0) <= MAX_DUE);
 }
 
 #[test]

@@ -89,7 +89,7 @@ LINK-CUT = LINKED ++ POSTED
 
 -- monitors that end with theirs
 abbrev pub EYE-CUT : List ℕ
-EYE-CUT = WATCHED ∷ WATCHER ∷ MONITOR-AGE ∷ POSTED
+EYE-CUT = WATCHED ∷ WATCHER ∷ POSTED
 
 pub wrote-post : (k : Caps) (s : State) (a sender h : ℕ) (payload : List ℕ) → Wrote POSTED s (post k s a sender h payload)
 unfolding post stir

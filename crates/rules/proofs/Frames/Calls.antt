@@ -8,7 +8,7 @@ use lib.Dec.{eqb, ltb}
 use Rattle.pools.specs.Slot.{slotOf}
 use Rattle.pools.proofs.BoolLaws.{split}
 use Rattle.tables.specs.declared.Caps.{Caps}
-use Rattle.tables.specs.Columns.{AGE, ARRIVED, CLOCK, HAND, PRIORITY, QUEUE, QUEUED, REASON, RUNNING, STATE, WATCHED}
+use Rattle.tables.specs.Columns.{AGE, ARRIVED, CLOCK, DUE, HAND, INTERVAL, PRIORITY, QUEUE, QUEUED, REASON, RUNNING, STATE, TIMER-OWNER, WATCHED}
 use Rattle.tables.specs.Limits.{ACTOR-FACTOR, LEVELS}
 use Rattle.tables.specs.State.{State, at, head}
 use Rattle.rules.specs.Aged.{Aged, endOwn, monitorPool, timerPool}
@@ -51,7 +51,7 @@ beside-own P a n s = beside-of (own-ends P a s n .wrote)
 
 -- ---- advance
 abbrev pub ADVANCED : List ℕ
-ADVANCED = CLOCK ∷ (TIMED ++ (POSTED ++ AIRED))
+ADVANCED = CLOCK ∷ INTERVAL ∷ DUE ∷ TIMER-OWNER ∷ (POSTED ++ AIRED)
 
 -- every timer that fires
 beside-fireAll : (k : Caps) (m : ℕ) (f : Fired) → Beside ADVANCED (f .state) (fireAll k m f .state)

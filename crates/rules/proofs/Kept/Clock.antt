@@ -24,7 +24,7 @@ use Rattle.rules.specs.Terms.{MESSAGE, TIMEOUT, WAITS}
 use Rattle.rules.specs.Sound.{pairRule}
 use Rattle.rules.specs.Actions.{dataFor, due, enlist, fill, hears, mailFor, post, ready, stir, unwait, wake}
 use Rattle.rules.specs.Agrees.{Agrees}
-use Rattle.rules.specs.Calls.{disarm, nextOverdue, rearm, rouse}
+use Rattle.rules.specs.Calls.{disarm, nextBeat, nextOverdue, rearm, rouse}
 use Rattle.rules.proofs.Reckoned.Parts.{agrees-time}
 use Rattle.rules.proofs.Frames.Wrote.{Wrote, wrote-none, wrote-poke, wrote-sized}
 use Rattle.rules.proofs.Frames.Pools.{use-ends}
@@ -34,6 +34,7 @@ use Rattle.rules.proofs.Kept.Clauses.{deadline-fits, deadline-unused, i
 use Rattle.rules.proofs.Kept.Groups as Part
 use Rattle.rules.proofs.Kept.Patch.{_by_also_, done, patch}
 use Rattle.rules.proofs.Lists.Least.{Least, least-is}
+use Rattle.rules.proofs.Reckoned.Beats.{beat-most}
 use Rattle.rules.proofs.Reckoned.Rearm.{redue-keeps}
 use Rattle.rules.proofs.Kept.Running.{wake-keeps}
 use Rattle.rules.proofs.Reckoned.Running.{wake-agrees}
@@ -140,18 +141,20 @@ module _ (k : Caps) (c : ℕ) (s : State) (h : Late k c s) where
       let q : head u CLOCK ≡ head s CLOCK = ap (λ (l : List ℕ). getD l 0 0) e in
       record { good = g; past = rw q (h .past); ends = rw q (h .ends) }
 
-  -- a timer that fires
-  pub rearm-late : (i : ℕ) → i < k .timers → (at s TIMER-OWNER i ≡ 0 → ⊥) → Late k c (rearm s i)
+  -- a timer whose time has come fires: its next due time is past the clock by one interval at most, so it is no later than soundness allows
+  pub rearm-late : (i : ℕ) → i < k .timers → (at s TIMER-OWNER i ≡ 0 → ⊥) → at s DUE i ≤ head s CLOCK → Late k c (rearm s i)
   unfolding rearm
-  rearm-late i l u =
+  rearm-late i l u come =
       let g = h .good in
       let o : at (atClock s c) TIMER-OWNER i ≡ 0 → ⊥ = rw (clock-read s c TIMER-OWNER refl) u in
       let w : at s INTERVAL i ≤ LONGEST = rw (clock-read s c INTERVAL refl) at (interval-fits g i) in
+      let next = nextBeat (at s DUE i) (at s INTERVAL i) (head s CLOCK) in
       split (eqb (at s INTERVAL i) 0)
       (λ q. rw q (late-then (disarm s i) (rw (clock-disarm s c i) at (disarm-keeps k (atClock s c) i g l)) (use-ends timerPool s i .wrote .cols CLOCK refl)))
-      (λ q. rw q (late-then (poke s DUE i (head s CLOCK + at s INTERVAL i))
-      (rw (clock-poke s c DUE i (head s CLOCK + at s INTERVAL i) refl) at (redue-keeps k (atClock s c) i (head s CLOCK + at s INTERVAL i) g l o (omega (arith, h .ends))))
-      (wrote-poke (wrote-none s) DUE i (head s CLOCK + at s INTERVAL i) .cols CLOCK refl)))
+      (λ q. let e = beat-most (at s DUE i) (at s INTERVAL i) (head s CLOCK) (eqb-false (at s INTERVAL i) 0 q) come in
+      rw q (late-then (poke s DUE i next)
+      (rw (clock-poke s c DUE i next refl) at (redue-keeps k (atClock s c) i next g l o (omega (arith, e, w, h .ends))))
+      (wrote-poke (wrote-none s) DUE i next .cols CLOCK refl)))
 
   -- who has a deadline waits
   pub late-waits : (a : ℕ) → a < k .actors → (at s DEADLINE a ≡ 0 → ⊥) → at s STATE a ≡ WAITS

@@ -6,7 +6,7 @@ use mathlib.Core.Bool.{true, false, not, _&&_, _||_}
 use mathlib.Core.List.{[], _∷_}
 use lib.ListN.{length}
 use lib.Dec.{eqb, ltb, leb}
-use borrow.Author.Tests.{eqb-true, eqb-false, ltb-false, not-true}
+use borrow.Author.Tests.{eqb-true, eqb-false, leb-true, ltb-false, not-true}
 use Rattle.ledger.specs.Call.Op.{advance}
 use Rattle.ledger.specs.Ledger.{Ledger, time}
 use Rattle.ledger.specs.Reckon.{dueNow, entered, fires, firing, firings, later, rearmed, sent, soonest, tick}
@@ -72,6 +72,10 @@ module _ (k : Caps) (t : Ticks k) (c : ℕ) where
     pub fires-at : (i < k .timers) × (at s TIMER-OWNER i ≡ 0 → ⊥) × (leb (at s DUE i) (head s CLOCK) ≡ true)
     fires-at = least-due k s (nextDue k s) refl found
 
+    -- its time has come
+    pub come : at s DUE i ≤ head s CLOCK
+    come = leb-true (at s DUE i) (head s CLOCK) (fires-at .2)
+
     -- its owner is alive
     pub owner-alive : alive (s STATE) (at s TIMER-OWNER i - 1) ≡ true
     unfolding atClock poke with-col
@@ -91,7 +95,7 @@ module _ (k : Caps) (t : Ticks k) (c : ℕ) where
     pub fire-late : Late k c (fire k s i)
     unfolding fire
     fire-late =
-        let r = rearm-late k c s h i (fires-at .0) (fires-at .1) in
+        let r = rearm-late k c s h i (fires-at .0) (fires-at .1) come in
         let b = at s TIMER-OWNER i - 1 in
         late-then k c (rearm s i) r (fire k s i)
         (rw (clock-post k (rearm s i) c b 0 (packed 3 1 0) (tickBytes (timerId s i))) at
@@ -102,8 +106,8 @@ module _ (k : Caps) (t : Ticks k) (c : ℕ) where
     fire-agrees : (l : Ledger) → Agrees k l s → Agrees k (firing (soonest (l .time .clock) (l .time .timers)) l) (fire k s i)
     unfolding fire firing
     fire-agrees l a =
-        let r = rearm-late k c s h i (fires-at .0) (fires-at .1) in
-        let b = rearm-agrees k l s (late-sized k c s h) (h .good .range) a i (fires-at .0) in
+        let r = rearm-late k c s h i (fires-at .0) (fires-at .1) come in
+        let b = rearm-agrees k l s (late-sized k c s h) (h .good .range) a i (fires-at .0) come in
         let e : atClock (rearm s i) c AGE ≡ s AGE = clock-read (rearm s i) c AGE refl ∙ wrote-rearm s i .cols AGE refl in
         let x = t .agrees (atClock (rearm s i) c) _ (at s TIMER-OWNER i - 1) (timerId s i) (at s DUE i) (at s INTERVAL i) (r .good) (late-agrees k c (rearmed l (timerAt s i)) (rearm s i) r b) alive-left room-left in
         rw (soonest-some k l s (late-sized k c s h) (h .good .range) a (nextDue k s) refl found)

@@ -11,12 +11,13 @@ use borrow.Author.Tests.{eqb-true, eqb-false, eq-eqb, ltb-true, lt-leb, lt-ltb}
 use Rattle.ledger.specs.Ledger.{Ledger, Timer}
 use Rattle.ledger.specs.Limits.{TIMER-FACTOR}
 use Rattle.ledger.specs.Lists.{first, some, those, total}
-use Rattle.ledger.specs.Reckon.{dueNow, endTimers, firedTimers, firing, firings, rearmed, sooner, soonest, tick, timer}
+use Rattle.ledger.specs.Reckon.{dueAgain, dueNow, endTimers, firedTimers, firing, firings, rearmed, sooner, soonest, tick}
 use Rattle.ledger.specs.Room.{holdings, messagesLeft}
 use Rattle.pools.specs.Pool.{occurs}
 use Rattle.pools.proofs.BoolLaws.{split, true-false, and-left, and-right, and-true}
 use Rattle.rules.proofs.Lists.Each.{all-passing}
 use Rattle.rules.proofs.Lists.Notices.{some-those}
+use Rattle.rules.proofs.Reckoned.Beats.{steps-past}
 use Rattle.rules.proofs.Reckoned.Ledger.{those-keep}
 use Rattle.rules.proofs.Reckoned.Pages.{order-out}
 use Rattle.rules.proofs.Lists.Values.{occurs-map}
@@ -94,7 +95,7 @@ Once l = (id : ℕ) → length (those (isId id) (l .time .timers)) ≤ 1
 -- ---- the timers of an id are due again
 -- the timers of an id with another due time
 abbrev redue : ℕ → ℕ → Timer → Timer
-redue clock id u = cond (eqb (u .id) id) (timer (u .id) (u .owner) (clock + u .interval) (u .interval)) u
+redue clock id u = cond (eqb (u .id) id) (dueAgain clock u) u
 
 -- of those that are due, just they are not any more, where each has an interval
 redue-due : (clock id : ℕ) (ts : List Timer) → some (λ u. eqb (u .id) id && eqb (u .interval) 0) ts ≡ false →
@@ -107,7 +108,8 @@ redue-due clock id (u ∷ ts) h =
     (λ z. true-false true refl (rw (q, z) at h))
     (λ z. let n : some (λ u. eqb (u .id) id && eqb (u .interval) 0) ts ≡ false = rw (q, z) at h in
     let i = redue-due clock id ts n in
-    let w : leb (clock + u .interval) clock ≡ false = lt-leb (clock + u .interval) clock (omega (arith, eqb-false (u .interval) 0 z)) in
+    let next = dueAgain clock u .due in
+    let w : leb next clock ≡ false = lt-leb next clock (steps-past clock (u .interval) (suc clock) (u .due) (eqb-false (u .interval) 0 z) (omega arith)) in
     split (leb (u .due) clock) (λ d. rw (q, w, d, q) i) (λ d. rw (q, w, d) i)))
     (λ q. let n : some (λ u. eqb (u .id) id && eqb (u .interval) 0) ts ≡ false = rw q at h in
     let i = redue-due clock id ts n in

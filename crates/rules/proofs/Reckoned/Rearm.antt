@@ -10,7 +10,7 @@ use lib.Dec.{eqb, ltb, leb, lit<}
 use borrow.Author.Tests.{eqb-true, eqb-false, eq-eqb, ne-eqb, not-true}
 use Rattle.ledger.specs.Ledger.{Ledger, time, withTime}
 use Rattle.ledger.specs.Lists.{first, some}
-use Rattle.ledger.specs.Reckon.{dueNow, rearmed, sooner, soonest, timer}
+use Rattle.ledger.specs.Reckon.{dueAgain, dueNow, rearmed, sooner, soonest}
 use Rattle.pools.specs.Pool.{occurs}
 use Rattle.pools.specs.Lists.{keep}
 use Rattle.pools.specs.Slot.{unused}
@@ -26,7 +26,8 @@ use Rattle.rules.specs.Terms.{timerId}
 use Rattle.rules.specs.Sound.{timerRule}
 use Rattle.rules.specs.Actions.{due, earliest}
 use Rattle.rules.specs.Agrees.{Agrees, timerAt}
-use Rattle.rules.specs.Calls.{rearm}
+use Rattle.rules.specs.Calls.{nextBeat, rearm}
+use Rattle.rules.proofs.Reckoned.Beats.{beat-same}
 use Rattle.rules.proofs.Reckoned.Pools.{pool-reads}
 use Rattle.rules.proofs.Reckoned.Firing.{Once, isId, those-most}
 use Rattle.rules.specs.Good.{Good}
@@ -76,35 +77,38 @@ keep-few p j (x ∷ es) h =
 
 -- ---- the reckoning
 module _ (k : Caps) (l : Ledger) (s : State) (z : Sized k s) (v : InRange k) (a : Agrees k l s) where
-  -- a timer is due its interval after c
-  redue-agree : (i c : ℕ) → i < k .timers →
-      Agrees k (withTime l (time (l .time .clock) (map (λ u. cond (eqb (u .id) (timerId s i)) (timer (u .id) (u .owner) (c + u .interval) (u .interval)) u) (l .time .timers)) (l .time .worn)))
-      (poke s DUE i (c + at s INTERVAL i))
+  -- a timer whose time has come is due again, on both sides at one time
+  redue-agree : (i : ℕ) → i < k .timers → (at s INTERVAL i ≡ 0 → ⊥) → at s DUE i ≤ head s CLOCK →
+      Agrees k (withTime l (time (l .time .clock) (map (λ u. cond (eqb (u .id) (timerId s i)) (dueAgain (head s CLOCK) u) u) (l .time .timers)) (l .time .worn)))
+      (poke s DUE i (nextBeat (at s DUE i) (at s INTERVAL i) (head s CLOCK)))
   unfolding poke with-col
-  redue-agree i c m =
-      timers-agree k l s (poke s DUE i (c + at s INTERVAL i)) _ (wrote-within TIMED (wrote-poke (wrote-none s) DUE i _) refl) a refl
+  redue-agree i m periodic come =
+      timers-agree k l s (poke s DUE i next) _ (wrote-within TIMED (wrote-poke (wrote-none s) DUE i _) refl) a refl
       (pool-reads (a .time .pool)
-      (rw (a .time .pool .are) (map-map (λ u. cond (eqb (u .id) (timerId s i)) (timer (u .id) (u .owner) (c + u .interval) (u .interval)) u) (timerAt s) (a .time .pool .slots)
-      ∙ map-same-on (λ e. cond (eqb (timerId s e) (timerId s i)) (timer (timerId s e) (timerAt s e .owner) (c + at s INTERVAL e) (at s INTERVAL e))
-      (timerAt s e)) (timerAt (poke s DUE i (c + at s INTERVAL i))) (a .time .pool .slots) same)))
+      (rw (a .time .pool .are) (map-map (λ u. cond (eqb (u .id) (timerId s i)) (dueAgain (head s CLOCK) u) u) (timerAt s) (a .time .pool .slots)
+      ∙ map-same-on (λ e. cond (eqb (timerId s e) (timerId s i)) (dueAgain (head s CLOCK) (timerAt s e)) (timerAt s e)) (timerAt (poke s DUE i next)) (a .time .pool .slots) same)))
     where
+      -- the rule's next due time
+      next : ℕ
+      next = nextBeat (at s DUE i) (at s INTERVAL i) (head s CLOCK)
+
       -- each timer of the list: the one that is due again, and the others
-      same : (e : ℕ) → 0 < occurs e (a .time .pool .slots) → cond (eqb (timerId s e) (timerId s i))
-          (timer (timerId s e) (timerAt s e .owner) (c + at s INTERVAL e) (at s INTERVAL e)) (timerAt s e) ≡ timerAt (poke s DUE i (c + at s INTERVAL i)) e
+      same : (e : ℕ) → 0 < occurs e (a .time .pool .slots) →
+          cond (eqb (timerId s e) (timerId s i)) (dueAgain (head s CLOCK) (timerAt s e)) (timerAt s e) ≡ timerAt (poke s DUE i next) e
       same e o =
           rw (slot-id-eqb TIMER-FACTOR (s TIMER-AGE) e i (omega (arith, v .fewTimers, clock-used k l s s z v a e o .1)) (omega (arith, v .fewTimers)))
-          (each-set (λ e. cond (eqb e i) (timer (timerId s e) (timerAt s e .owner) (c + at s INTERVAL e) (at s INTERVAL e)) (timerAt s e) ≡ timerAt (poke s DUE i (c + at s INTERVAL i)) e) i e
-          (rw (eq-eqb i i refl, getD-set-same (s DUE) i (c + at s INTERVAL i) 0 (omega (arith, z .words DUE (lit< tt)))))
-          (λ q. rw (q, other (s DUE) i (c + at s INTERVAL i) e q)))
+          (each-set (λ e. cond (eqb e i) (dueAgain (head s CLOCK) (timerAt s e)) (timerAt s e) ≡ timerAt (poke s DUE i next) e) i e
+          (rw (eq-eqb i i refl, getD-set-same (s DUE) i next 0 (omega (arith, z .words DUE (lit< tt))), beat-same (at s DUE i) (at s INTERVAL i) (head s CLOCK) periodic come))
+          (λ q. rw (q, other (s DUE) i next e q)))
 
-  -- "A firing one-shot ends. A periodic one is next due at clock + interval"
-  pub rearm-agrees : (i : ℕ) → i < k .timers → Agrees k (rearmed l (timerAt s i)) (rearm s i)
+  -- "A firing one-shot ends"; a periodic one is due again on its next beat
+  pub rearm-agrees : (i : ℕ) → i < k .timers → at s DUE i ≤ head s CLOCK → Agrees k (rearmed l (timerAt s i)) (rearm s i)
   unfolding rearmed rearm
-  rearm-agrees i m =
+  rearm-agrees i m come =
       split (eqb (at s INTERVAL i) 0) (λ q. rw q (disarm-agree k l s i z v a m))
       (λ q. rw q
-      (subst (λ (c : ℕ). Agrees k (withTime l (time (l .time .clock) (map (λ u. cond (eqb (u .id) (timerId s i)) (timer (u .id) (u .owner) (c + u .interval) (u .interval)) u) (l .time .timers)) (l .time .worn)))
-      (poke s DUE i (head s CLOCK + at s INTERVAL i))) (sym (a .time .clock)) (redue-agree i (head s CLOCK) m)))
+      (subst (λ (c : ℕ). Agrees k (withTime l (time (l .time .clock) (map (λ u. cond (eqb (u .id) (timerId s i)) (dueAgain c u) u) (l .time .timers)) (l .time .worn)))
+      (poke s DUE i (nextBeat (at s DUE i) (at s INTERVAL i) (head s CLOCK)))) (sym (a .time .clock)) (redue-agree i m (eqb-false (at s INTERVAL i) 0 q) come)))
 
   -- ---- the soonest
   -- of two timers, the tables' and the reckoning's say which comes before

@@ -16,7 +16,7 @@ use Rattle.rules.specs.Sound.{rangeRule}
 use Rattle.rules.specs.Terms.{fits, headerAt, joins, wants}
 use Rattle.rules.specs.Actions.{delist, enlist, fill, least, letGo, post, ready, stir, unfill, unwait}
 use Rattle.rules.specs.Buses.{airing, leaveBuses}
-use Rattle.rules.specs.Calls.{await, cutLink, cutLinks, cutMonitor, cutMonitors, depart, dropAll, dropFirst, fire, fireAll, firstHead, handOver, loosen, rearm, receiveBare, rouse, ruled, run, sleep, tell, tie, vacate}
+use Rattle.rules.specs.Calls.{await, cutLink, cutLinks, cutMonitor, cutMonitors, depart, dropAll, dropFirst, fire, fireAll, firstHead, handOver, loosen, nextBeat, rearm, receiveBare, rouse, ruled, run, sleep, tell, tie, vacate}
 use Rattle.rules.specs.Host.{fresh, freed, stated, zeroed}
 use Rattle.rules.specs.Run.{afterwards, lines, play}
 use Rattle.rules.specs.Story.{capsFrom}
@@ -56,9 +56,9 @@ rights (r ∷ rs) c = (right r (c .0), rights rs (c .1))
 small : AllComputed smallRows
 unfolding airing leaveBuses ruled lowest le exitBytes readExit tickBytes poke with-col glue joinP freeBit pull push takeBit write fits headerAt joins wants delist enlist fill
     least letGo post ready stir unfill unwait beginUse await cutLink cutLinks cutMonitor cutMonitors endUse dropAll dropFirst endOwn depart fire fireAll
-    firstHead handOver loosen vacate rearm receiveBare rouse run sleep tell tie fresh freed stated zeroed afterwards lines
+    firstHead handOver loosen vacate nextBeat rearm receiveBare rouse run sleep tell tie fresh freed stated zeroed afterwards lines
 small =
-    ((refl, λ s. refl), ((refl, λ s. refl), ((refl, λ s. refl), ((refl, λ s. refl), ((refl, λ s. refl), ((refl, λ s. refl), ((refl, λ s. refl), ((refl, λ s. refl), ((refl, λ s. refl), ((refl, λ s. refl), tt))))))))))
+    ((refl, λ s. refl), ((refl, λ s. refl), ((refl, λ s. refl), ((refl, λ s. refl), ((refl, λ s. refl), ((refl, λ s. refl), ((refl, λ s. refl), ((refl, λ s. refl), ((refl, λ s. refl), ((refl, λ s. refl), ((refl, λ s. refl), tt)))))))))))
 
 -- ---- by theorems on longer runs
 -- the bench run

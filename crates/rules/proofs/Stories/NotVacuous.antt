@@ -13,7 +13,7 @@ use Rattle.ledger.specs.Ledger.Says.{ticked, wrote}
 use Rattle.ledger.specs.Lists.{butFirst, bySlot, first, some, those}
 use Rattle.ledger.specs.Reckon as L
 use Rattle.ledger.specs.Reckon.{aired, departed, endLinks, endMonitors, endReaders, endTimers, entered, fires, firing, firings, gone, message, notices, page, partnerNotes}
-use Rattle.ledger.specs.Reckon.{rearmed, reckon, runs, sendings, soonest, pickedUp, timer, refusalDue, wanted, watcherNotes, wornBy}
+use Rattle.ledger.specs.Reckon.{pastClock, rearmed, reckon, runs, sendings, soonest, pickedUp, timer, refusalDue, wanted, watcherNotes, wornBy}
 use Rattle.pools.specs.Pool.{lowest}
 use Rattle.records.specs.Bytes.{le}
 use Rattle.records.specs.Records.{exitBytes, tickBytes}
@@ -24,7 +24,7 @@ use Rattle.rules.specs.Aged.{beginUse, endOwn, endUse}
 use Rattle.rules.specs.Terms.{fits, headerAt, joins, wants}
 use Rattle.rules.specs.Actions.{delist, enlist, fill, least, letGo, post, ready, stir, unfill, unwait}
 use Rattle.rules.specs.Buses.{airing, leaveBuses}
-use Rattle.rules.specs.Calls.{cutLink, cutLinks, cutMonitor, cutMonitors, depart, dropAll, dropFirst, fire, fireAll, firstHead, handOver, loosen, rearm, receiveBare, rouse, ruled, run, tell, tie, vacate}
+use Rattle.rules.specs.Calls.{cutLink, cutLinks, cutMonitor, cutMonitors, depart, dropAll, dropFirst, fire, fireAll, firstHead, handOver, loosen, nextBeat, rearm, receiveBare, rouse, ruled, run, tell, tie, vacate}
 use Rattle.rules.specs.Host.{fresh, freed, stated, zeroed}
 use Rattle.rules.specs.Run.{lines}
 use Rattle.rules.specs.Story.{capsFrom, line}
@@ -61,7 +61,7 @@ LEFT = record {
       ∷ message 65 66 (Says.ended 66 CRASH 0)
       ∷ [])
       (message 65 65 (wrote 8 (3 ∷ [])) ∷ []);
-  time = time 300 (timer 64 65 500 200 ∷ []) [];
+  time = time 300 (timer 64 65 400 200 ∷ []) [];
   ties = ties (record { one = 65; two = 64 } ∷ []) (record { id = 128; watcher = 65; target = 64 } ∷ []) [];
   buses = buses [] [] [] 0;
 }
@@ -80,7 +80,7 @@ RAN = line (start FEW) (plain 0) ∷ lined RUN ANSWERS
 computed : (s : State) → lines (capsFrom FEW) (fresh (capsFrom FEW) s) RUN ≡ lined RUN ANSWERS
 unfolding airing leaveBuses ruled lowest le exitBytes tickBytes poke with-col freeBit pull push takeBit write fits headerAt joins wants delist enlist fill least letGo post ready
     stir unfill unwait beginUse cutLink cutLinks cutMonitor cutMonitors endUse dropAll dropFirst endOwn depart fire fireAll firstHead handOver loosen vacate
-    rearm receiveBare rouse run tell tie fresh freed stated zeroed lines
+    nextBeat rearm receiveBare rouse run tell tie fresh freed stated zeroed lines
 computed s = refl
 
 -- THE THEOREM: on any two buffers that are long enough, whatever they hold, a story with these lines happens
@@ -92,7 +92,7 @@ not-vacuous w p a b =
 -- THE THEOREM: and its reckoning, whatever was reckoned before the start, is this ledger
 pub reckoned : (l : Ledger) → reckon l RAN ≡ LEFT
 unfolding aired butFirst bySlot first some those L.cleared L.between L.emptyHanded departed endLinks endMonitors endReaders endTimers entered fires firing firings gone notices
-    partnerNotes rearmed reckon sendings soonest pickedUp wanted watcherNotes wornBy
+    partnerNotes pastClock rearmed reckon sendings soonest pickedUp wanted watcherNotes wornBy
 reckoned l = refl
 
 -- calls to it, and the refusal that is due to each: 65 runs and 66 is nobody; the mailboxes, the monitor and the timer are taken; a tag is malformed before a target is unknown
@@ -105,12 +105,12 @@ pub refusals-due : map (λ o. refusalDue LEFT (op o)) ASKED ≡ 4 ∷ 1 ∷ 1 �
 unfolding some L.between
 refusals-due = refl
 
--- the counts that are due to calls: its timer is due at 500, but the mailboxes are full; 65 has one partner, and its own messages make room; the rest is what is free
+-- the counts that are due to calls: its timer is due at 400, but the mailboxes are full; 65 has one partner, and its own messages make room; the rest is what is free
 pub counts-due : map (λ o. page o .counts LEFT) (advance 1000 ∷ exit 0 ∷ report ∷ yield ∷ []) ≡ (0 ∷ []) ∷ (1 ∷ 0 ∷ []) ∷ (1 ∷ 0 ∷ 0 ∷ 1 ∷ 0 ∷ 0 ∷ []) ∷ [] ∷ []
 unfolding bySlot some those L.cleared L.between endLinks endMonitors endTimers firings notices partnerNotes sendings watcherNotes
 counts-due = refl
 
 -- and where there is room, or less of it than is due: with 65's mailbox and hand empty the timer fires once it is due; where 64 runs, which 65 is linked with and watches, one of two notices is lost
-pub counts-short : (page (advance 1000) .counts (L.cleared 65 LEFT) ≡ 1 ∷ []) × (page (advance 199) .counts (L.cleared 65 LEFT) ≡ 0 ∷ []) × (page (exit 0) .counts (runs 64 LEFT) ≡ 1 ∷ 1 ∷ [])
+pub counts-short : (page (advance 1000) .counts (L.cleared 65 LEFT) ≡ 1 ∷ []) × (page (advance 99) .counts (L.cleared 65 LEFT) ≡ 0 ∷ []) × (page (exit 0) .counts (runs 64 LEFT) ≡ 1 ∷ 1 ∷ [])
 unfolding bySlot some those L.cleared L.between endLinks endMonitors endTimers firings notices partnerNotes sendings watcherNotes
 counts-short = (refl, refl, refl)

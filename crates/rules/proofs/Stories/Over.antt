@@ -1,7 +1,7 @@
 -- Ids of actors: that only a spawn makes one, and that no call brings one back.
 use Prim.Native.Nat.{ℕ, _+_, _≤_, _<_}
 use native.Mathlib.Omega.{arith}
-use mathlib.Core.Path.{_≡_, sym, subst, _∙_}
+use mathlib.Core.Path.{_≡_, refl, sym, subst, _∙_}
 use mathlib.Core.Bool.{true, false, _||_}
 use lib.Dec.{eqb, ltb}
 use borrow.Author.Tests.{eqb-true, ltb-true}
@@ -62,7 +62,7 @@ pub over-stays : (c : Op) (k : Caps) (s : State) (l : Ledger) (id : ℕ) → Goo
     → Good k (step c k s .state) → Agrees k (entered (record { call = op c; answer = step c k s .ans }) l) (step c k s .state)
     → Over s id → Over (step c k s .state) id
 over-stays c k s l id g r h w o = record {
-  given = omega (arith, o .given, ages-grow c k s (slotOf ACTOR-FACTOR id));
+  given = omega (arith, o .given, ages-grow c AGE refl k s (slotOf ACTOR-FACTOR id));
   nobody = split (isActor (step c k s .state) id)
       (λ q. true-false (isActor s id)
       (known-same k s g l r id
@@ -80,4 +80,4 @@ over-stays c k s l id g r h w o = record {
 
 -- an actor that was alive and is not any more is over
 pub over-once : (c : Op) (k : Caps) (s : State) (id : ℕ) → isActor s id ≡ true → isActor (step c k s .state) id ≡ false → Over (step c k s .state) id
-over-once c k s id e f = record { given = omega (arith, of-live ACTOR-FACTOR (s STATE) (s AGE) id e .1, ages-grow c k s (slotOf ACTOR-FACTOR id)); nobody = f }
+over-once c k s id e f = record { given = omega (arith, of-live ACTOR-FACTOR (s STATE) (s AGE) id e .1, ages-grow c AGE refl k s (slotOf ACTOR-FACTOR id)); nobody = f }

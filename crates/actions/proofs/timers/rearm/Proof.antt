@@ -25,13 +25,14 @@ returns-2 : tie.Need-returns-2
 unfolding rearm
 returns-2 c =
     let c1 = c .before .before in
-    let c2 = c1 .before .before in
+    let c2 = c1 .before in
     let c3 = c2 .before .before in
-    let c4 = c3 .before in
-    let c5 = c4 .before .before .before .before in
-    let a = c5 .args in
-    let e : eqb (at (view (a .k) (a .t .now) (a .p .now)) INTERVAL (a .i)) 0 ≡ false = ne-eqb _ _ (λ z. c3 .if1 .left (c4 .get .ensures ∙ z)) in
-    record { is = rw (c1 .put .ensures .is, c2 .get2 .ensures, c4 .get .ensures, e); room = c1 .put .ensures .room }
+    let c4 = c3 .before .before in
+    let c5 = c4 .before .before in
+    let c6 = c5 .before in
+    let a = c6 .before .before .before .before .args in
+    let e : eqb (at (view (a .k) (a .t .now) (a .p .now)) INTERVAL (a .i)) 0 ≡ false = ne-eqb _ _ (λ z. c5 .if1 .left (c6 .get .ensures ∙ z)) in
+    record { is = rw (c1 .put .ensures .is, c2 .next-beat .ensures, c3 .get3 .ensures, c4 .get2 .ensures, c6 .get .ensures, e); room = c1 .put .ensures .room }
 
 pub rearm-spec : {M : Type 1} → statement M
-rearm-spec = tie.close (tie.spec (λ c κs. search needs) (λ c κs. search needs) (λ c. search needs) returns (λ c κs. search needs) (λ c. search needs) (λ c κs. search needs) (λ c. search needs) returns-2)
+rearm-spec = tie.close (tie.spec (λ c κs. search needs) (λ c κs. search needs) (λ c. search needs) returns (λ c κs. search needs) (λ c κs. search needs) (λ c κs. search needs) (λ c κs. search needs) (λ c. search needs) returns-2)
