@@ -1,7 +1,7 @@
 -- THE THEOREMS, on one page. Somebody lends two buffers, whatever they hold. All that is known of a call on them is its promise, `Meets`, which is the contract of its function in
 -- runtime/src; nobody else writes the buffers. Nothing else is assumed. w and p are the words and bytes before a call, w′ and p′ those after it; c is a call, o one but start, r its answer,
 -- z the sizes that a start asks for, k capacities, s a state, l what the reckoning says.
-use Prim.Native.Nat.{ℕ, _+_, _≤_, _<_}
+use Prim.Native.Nat.{ℕ, _+_, _*_, _≤_, _<_}
 use mathlib.Core.Path.{_≡_}
 use mathlib.Core.Logic.{_↔_}
 use mathlib.Core.Bool.{true, false, cond, not}
@@ -9,28 +9,33 @@ use mathlib.Core.List.{List, [], _∷_, _++_, map}
 use lib.IntN.{ℤ}
 use lib.ListN.{drop, length, take}
 use lib.Dec.{eqb, leb}
+use Rattle.ledger.specs.Beat.{OnBeat}
 use Rattle.ledger.specs.Call.{Answer, Call, Line, Op, Sizes, Why, code, counted, number, numbered, refuses, zeroed}
 use Rattle.ledger.specs.Call.Answer.{advanced, copied, ended, made, part, plain, turn}
 use Rattle.ledger.specs.Call.Call.{start, op}
-use Rattle.ledger.specs.Call.Op.{advance, bus, exit, next, publish, read, receive, show, shown, spawn, subscribe}
+use Rattle.ledger.specs.Call.Op.{advance, bus, every, exit, next, publish, read, receive, show, shown, spawn, subscribe}
 use Rattle.ledger.specs.Ended.{Unaimed}
 use Rattle.ledger.specs.Ledger.{Ledger, Message, Value, nothing}
 use Rattle.ledger.specs.Lists.{butFirst, some, those}
 use Rattle.ledger.specs.Reckon.{entered, firedTimers, firings, later, leaf, notices, oneMore, page, readOut, reckon, short, refusalDue, stale}
 use Rattle.ledger.specs.Room.{busFull, heard, inHand, known, oldestUnread}
 use Rattle.pools.specs.Pool.{occurs}
-use Rattle.tables.specs.State.{PastSame, capsOf, needed, neededP}
+use Rattle.tables.specs.Columns.{CLOCK, DUE, TIMER-OWNER}
+use Rattle.tables.specs.Limits.{CLOCK-END, DUE-END, LONGEST}
+use Rattle.tables.specs.State.{PastSame, at, capsOf, head, needed, neededP}
 use Rattle.rules.specs.declared.Shown.{Shown}
 use Rattle.rules.specs.Rule.{Holds}
-use Rattle.rules.specs.Terms.{isActor}
+use Rattle.rules.specs.Terms.{isActor, timerId}
 use Rattle.rules.specs.Sound.{soundRule, viewOf}
-use Rattle.rules.specs.Agrees.{spelled}
-use Rattle.rules.specs.Calls.{Sleeps}
+use Rattle.rules.specs.Agrees.{spelled, timerAt}
+use Rattle.rules.specs.Calls.{Sleeps, nextBeat}
 use Rattle.rules.specs.Run.{sayShown, seven}
 use Rattle.rules.specs.Story.{Aims, Kept, Meets, Story, capsFor, capsFrom, line, startless}
 use Rattle.rules.specs.Trim.{NeededSame}
+use Rattle.rules.proofs.Reckoned.Beats.{beat-ends, smallest}
 use Rattle.rules.proofs.Reckoned.Counts.{advance-once, line-notices, line-ticks}
 use Rattle.rules.proofs.Stories.Host.{meets-broken, meets-once}
+use Rattle.rules.proofs.Kept.Clauses.{due-fits}
 use Rattle.rules.proofs.Kept.Host.{good-view}
 use Rattle.rules.proofs.Frames.Past.{line-past}
 use Rattle.rules.proofs.Stories.Showing.{show-is-shown}
@@ -39,6 +44,7 @@ use Rattle.rules.proofs.Stories.Story.{begun-kept, story-kept}
 use Rattle.rules.proofs.Stories.Answers.{line-counts, line-in-hand, line-not-new, line-refusal, line-refused, line-seven, line-two, line-unmet, line-unshown}
 use Rattle.rules.proofs.Stories.Buses.{ages-end, bus-numbered, full-has-room, line-read, nothing-before, publish-ends-oldest, ranks-known, read-out-ends, reads-on, spawned-unsubscribed}
 use Rattle.rules.proofs.Stories.Ends.{ended-stays-ended, strange-line}
+use Rattle.rules.proofs.Stories.Metronome.{stays-on-beat}
 use Rattle.rules.proofs.Frames.Unread.{fresh-alike, line-unread}
 
 -- ---- DEMAND 1, of every call on any two buffers
@@ -80,6 +86,16 @@ nothing-beside = line-not-new
 pub shown-where : (w p bytes : List ℕ) (q : Shown) (w₁ p₁ w₂ p₂ : List ℕ) → Meets (op show) w p (part bytes) w₁ p₁ → Meets (op shown) w p (sayShown q) w₂ p₂ →
     (bytes ≡ take (q .length) (drop (q .offset) p)) × (length bytes ≡ q .length)
 shown-where w p bytes q w₁ p₁ w₂ p₂ = show-is-shown w p bytes q
+
+-- ---- A METRONOME, of request C-14. The rule of a periodic timer that fires (`rearm`) is `nextBeat`
+module _ (due interval clock : ℕ) (periodic : interval ≡ 0 → ⊥) (come : due ≤ clock) where
+  -- the next due time is the old one plus the smallest whole number of intervals that brings it past the clock
+  pub next-beat : (n : ℕ) × (nextBeat due interval clock ≡ due + interval * n) × (clock < due + interval * n) × ((m : ℕ) → clock < due + interval * m → n ≤ m)
+  next-beat = smallest due interval clock periodic come
+
+  -- and it cannot pass 2^62 + 2^32
+  pub next-beat-ends : clock ≤ CLOCK-END → interval ≤ LONGEST → nextBeat due interval clock ≤ DUE-END
+  next-beat-ends = beat-ends due interval clock periodic come
 
 -- ---- DEMAND 3: a start that answered 0, and any story after it
 module _ (z : Sizes) {w p w₁ p₁ w₂ p₂ : List ℕ} {xs : List Line} (began : Meets (start z) w p (plain 0) w₁ p₁) (story : Story w₁ p₁ xs w₂ p₂) where
@@ -138,6 +154,15 @@ module _ (z : Sizes) {w p w₁ p₁ w₂ p₂ : List ℕ} {xs : List Line} (bega
   -- no timer fires twice in one advance, as the reckoning has it; `ticks-arrive` ties it to the call
   pub fires-once : (micros id : ℕ) → occurs id (map (λ t. t .id) (firedTimers (firings (later micros there)) (later micros there))) ≤ 1
   fires-once micros id = advance-once (capsOf w₂) (viewOf w₂ p₂) there (good-view w₂ p₂ (demand-three .sound)) (demand-three .agrees) micros id
+
+  -- no due time passes 2^62 + 2^32
+  pub due-times-end : (i : ℕ) → at (viewOf w₂ p₂) DUE i ≤ DUE-END
+  due-times-end = due-fits (good-view w₂ p₂ (demand-three .sound))
+
+  -- a metronome does not drift: for as long as a periodic timer lives, until a new start, each of its due times is its first, an interval after it was armed, plus a whole number of intervals, and one interval from now at most
+  pub never-drifts : (interval id : ℕ) {w₃ p₃ w₄ p₄ : List ℕ} {ys : List Line} → Meets (op (every interval)) w₂ p₂ (made 0 id) w₃ p₃ → Story w₃ p₃ ys w₄ p₄ → startless ys ≡ true →
+      let s = viewOf w₄ p₄ in (i : ℕ) → (at s TIMER-OWNER i ≡ 0 → ⊥) → timerId s i ≡ id → OnBeat (there .time .clock + interval) interval (head s CLOCK) (timerAt s i)
+  never-drifts interval id m = stays-on-beat interval id there m demand-three
 
   -- after an exit, until a new start: the actor that ended is nobody, owns nothing, and nothing is aimed at it
   pub after-exit : (reason sent lost : ℕ) {w₃ p₃ w₄ p₄ : List ℕ} {ys : List Line} → Meets (op (exit reason)) w₂ p₂ (ended 0 sent lost) w₃ p₃ → Story w₃ p₃ ys w₄ p₄ → startless ys ≡ true →

@@ -7,6 +7,7 @@ pub mod Copies
 pub mod Ends
 pub mod Examples
 pub mod Host
+pub mod Metronome
 pub mod NotVacuous
 pub mod Order
 pub mod Over

@@ -30,6 +30,7 @@ use Rattle.rules.specs.Buses.{oldestUnread as unreadAt}
 use Rattle.rules.specs.Calls.{Ans, Out, Shape, entry, firstHead, firstMatch, notAtAll, ordered, out, receiveBare, refusal, ruled}
 use Rattle.rules.specs.Calls.Shape.{aNumber, anId, aTurn, aMessage, aPart, aPlace, anEnd, anAdvance, aReport, aCopy}
 use Rattle.rules.specs.Run.{numbers, said, say, step}
+use Rattle.rules.proofs.Reckoned.Beats.{advance-beats, armed-beats, ended-beats}
 use Rattle.rules.proofs.Reckoned.Clock.{advance-agrees, advance-counts, advance-keeps, advance-same}
 use Rattle.rules.proofs.Frames.Pools.{use-ends}
 use Rattle.rules.proofs.Frames.Ages.{after-framed, every-framed, framed, monitor-framed, spawn-framed}
@@ -48,7 +49,7 @@ use Rattle.rules.proofs.Kept.Buses.{bus-keeps, publish-keeps, read-keep
 use Rattle.rules.proofs.Kept.Messages.{notify-keeps, receive-keeps}
 use Rattle.rules.proofs.Reckoned.Buses.{bus-agrees, bus-same, publish-agrees, publish-same, read-agrees, read-same, subscribe-agrees, subscribe-same, unsubscribe-agrees, unsubscribe-same}
 use Rattle.rules.proofs.Reckoned.Messages.{notify-agrees, notify-same, receive-agrees, receive-same}
-use Rattle.rules.proofs.Reckoned.Pages.{Paged, fires-does, more-some, quietly, reading-else, within-all, within-but, within-end, Within}
+use Rattle.rules.proofs.Reckoned.Pages.{Paged, fires-does, more-some, quietly, reading-else, silently, steadily, within-all, within-but, within-end, Within}
 use Rattle.rules.proofs.Kept.Running.{next-keeps, spawn-keeps, yield-keeps}
 use Rattle.rules.proofs.Reckoned.Running.{next-agrees, next-same, report-counts, shown-same, spawn-agrees, spawn-same, yield-agrees, yield-same}
 use Rattle.rules.proofs.Reckoned.Tests.{same-first}
@@ -141,14 +142,15 @@ proved (spawn n) =
       boxes = λ m l. refl;
       knows = λ id r l d e. more-some (λ a. eqb (a .id) id) (l .people .live) (record { id = r; priority = n }) e (ne-eqb r id (d n refl));
       knew = λ id m l e. e;
+      steady = steadily (spawn n) (λ r l. (refl, refl));
     })
 proved next =
     row next (λ k s. (refl, split (ltb (firstHead s LEVELS) (head s QUEUED)) (λ q. rw q) (λ q. rw q))) (λ k s l g a p. refl) (inl (λ m. refl))
-    next-keeps next-agrees next-same (framed next beside-next refl) (quietly next (λ r l. (refl, refl, refl, refl)))
+    next-keeps next-agrees next-same (framed next beside-next refl) (quietly next (λ r l. (refl, refl, refl, refl, refl)))
 proved yield =
     row yield (λ k s. (refl, refl)) (λ k s l g a p. refl) (inl (λ m. refl))
     yield-keeps yield-agrees yield-same (framed yield (λ k s. beside-of (wrote-ready (wrote-poke (wrote-none s) RUNNING 0 0) _ 0)) refl)
-    (quietly yield (λ r l. (refl, refl, refl, refl)))
+    (quietly yield (λ r l. (refl, refl, refl, refl, refl)))
 proved (notify to tag payload) =
     row (notify to tag payload) (λ k s. (refl, refl)) (λ k s l g a p. refl) (inl (λ m. refl))
     (notify-keeps to tag payload) (notify-agrees to tag payload) (notify-same to tag payload)
@@ -157,6 +159,7 @@ proved (notify to tag payload) =
       boxes = λ n l. refl;
       knows = λ id r l d e. e;
       knew = λ id n l e. e;
+      steady = steadily (notify to tag payload) (λ r l. (refl, refl));
     })
 proved (receive sender class tag wait) =
     row (receive sender class tag wait) (λ k s. (refl, receive-works sender class tag wait (runner s - 1) (letGo s (runner s - 1)))) (λ k s l g a p. refl)
@@ -167,35 +170,39 @@ proved (receive sender class tag wait) =
       boxes = λ n l. split (eqb n 5) (λ q. rw q) (λ q. rw q);
       knows = λ id r l d e. e;
       knew = λ id n l e. split (eqb n 5) (λ q. rw q at e) (λ q. rw q at e);
+      steady = steadily (receive sender class tag wait) (λ n l. (refl, split (eqb n 5) (λ q. rw q) (λ q. rw q)));
     })
 proved show =
     row show (λ k s. (refl, refl)) (λ k s l g a p. refl) (inr show-silent) (λ k s g p. g) (λ k s l g a p. a) shown-same
-    (framed show (λ k s. beside-still [] s) refl) (quietly show (λ r l. (refl, refl, refl, refl)))
+    (framed show (λ k s. beside-still [] s) refl) (quietly show (λ r l. (refl, refl, refl, refl, refl)))
 proved shown =
     row shown (λ k s. (refl, refl)) (λ k s l g a p. refl) (inl (λ m. refl)) (λ k s g p. g) (λ k s l g a p. a) shown-same
-    (framed shown (λ k s. beside-still [] s) refl) (quietly shown (λ r l. (refl, refl, refl, refl)))
+    (framed shown (λ k s. beside-still [] s) refl) (quietly shown (λ r l. (refl, refl, refl, refl, refl)))
 proved (after n) =
     row (after n) (λ k s. (refl, refl)) (λ k s l g a p. refl) (inl (λ m. refl)) (after-keeps n) (after-agrees n) (after-same n)
-    (after-framed n) (quietly (after n) (λ r l. (refl, refl, refl, refl)))
+    (after-framed n) (silently (after n) (λ r l. (refl, refl, refl, refl))
+    (λ me first interval r l m. armed-beats me first interval n 0 r l (m (inl (n, refl))), λ me first interval q l h. h))
 proved (every n) =
     row (every n) (λ k s. (refl, refl)) (λ k s l g a p. refl) (inl (λ m. refl)) (every-keeps n) (every-agrees n) (every-same n)
-    (every-framed n) (quietly (every n) (λ r l. (refl, refl, refl, refl)))
+    (every-framed n) (silently (every n) (λ r l. (refl, refl, refl, refl))
+    (λ me first interval r l m. armed-beats me first interval n n r l (m (inr (n, refl))), λ me first interval q l h. h))
 proved (cancel id) =
     row (cancel id) (λ k s. (refl, refl)) (λ k s l g a p. refl) (inl (λ m. refl)) (cancel-keeps id) (cancel-agrees id) (cancel-same id)
-    (framed (cancel id) (λ k s. beside-of (use-ends timerPool s _ .wrote)) refl) (quietly (cancel id) (λ r l. (refl, refl, refl, refl)))
+    (framed (cancel id) (λ k s. beside-of (use-ends timerPool s _ .wrote)) refl) (silently (cancel id) (λ r l. (refl, refl, refl, refl))
+    (λ me first interval r l m. ended-beats me first interval (λ t. eqb (t .id) id) l, λ me first interval q l h. h))
 proved (link id) =
     row (link id) (λ k s. (refl, refl)) (λ k s l g a p. refl) (inl (λ m. refl)) (link-keeps id) (link-agrees id) (link-same id)
     (framed (link id) (beside-link id) refl) (quietly (link id)
-    (λ r l. split (linked l (l .people .running) id) (λ q. rw q (refl, refl, refl, refl)) (λ q. rw q (refl, refl, refl, refl))))
+    (λ r l. split (linked l (l .people .running) id) (λ q. rw q (refl, refl, refl, refl, refl)) (λ q. rw q (refl, refl, refl, refl, refl))))
 proved (unlink id) =
     row (unlink id) (λ k s. (refl, refl)) (λ k s l g a p. refl) (inl (λ m. refl)) (unlink-keeps id) (unlink-agrees id) (unlink-same id)
-    (framed (unlink id) (λ k s. beside-of (wrote-tie (wrote-none s) _ 0 0)) refl) (quietly (unlink id) (λ r l. (refl, refl, refl, refl)))
+    (framed (unlink id) (λ k s. beside-of (wrote-tie (wrote-none s) _ 0 0)) refl) (quietly (unlink id) (λ r l. (refl, refl, refl, refl, refl)))
 proved (monitor id) =
     row (monitor id) (λ k s. (refl, refl)) (λ k s l g a p. refl) (inl (λ m. refl)) (monitor-keeps id) (monitor-agrees id) (monitor-same id)
-    (monitor-framed id) (quietly (monitor id) (λ r l. (refl, refl, refl, refl)))
+    (monitor-framed id) (quietly (monitor id) (λ r l. (refl, refl, refl, refl, refl)))
 proved (demonitor id) =
     row (demonitor id) (λ k s. (refl, refl)) (λ k s l g a p. refl) (inl (λ m. refl)) (demonitor-keeps id) (demonitor-agrees id) (demonitor-same id)
-    (framed (demonitor id) (λ k s. beside-of (use-ends monitorPool s _ .wrote)) refl) (quietly (demonitor id) (λ r l. (refl, refl, refl, refl)))
+    (framed (demonitor id) (λ k s. beside-of (use-ends monitorPool s _ .wrote)) refl) (quietly (demonitor id) (λ r l. (refl, refl, refl, refl, refl)))
 proved (exit reason) =
     row (exit reason) (λ k s. (refl, refl)) (exit-counts reason) (inl (λ m. refl)) (exit-keeps reason) (exit-agrees reason) (exit-same reason)
     (framed (exit reason) (λ k s. beside-depart k (runner s - 1) reason s) refl) (record {
@@ -208,6 +215,7 @@ proved (exit reason) =
           some-then (λ a. others a && eqb (a .id) id) (λ a. eqb (a .id) id) (l .people .live) (λ a. and-right (others a) (eqb (a .id) id))
           (sym (some-those _ others _) ∙ there);
       knew = λ id n l e. e;
+      steady = (λ id first interval r l m. ended-beats id first interval (λ t. eqb (t .owner) (l .people .running)) l, λ id first interval n l h. h);
     })
 proved (advance micros) =
     row (advance micros) (λ k s. (refl, refl)) (advance-counts micros) (inl (λ m. refl)) (advance-keeps micros) (advance-agrees micros) (advance-same micros)
@@ -217,27 +225,28 @@ proved (advance micros) =
       boxes = λ n l. refl;
       knows = λ id r l d e. rw (fires-does (firings (later micros l)) (later micros l) .1) at e;
       knew = λ id n l e. e;
+      steady = (λ id first interval r l m. advance-beats id first interval (firings (later micros l)) micros l, λ id first interval n l h. h);
     })
 proved report =
     row report (λ k s. (refl, refl)) report-counts (inl (λ m. refl)) (λ k s g p. g) (λ k s l g a p. a) (λ k s l g a. record {})
-    (framed report (λ k s. beside-still [] s) refl) (quietly report (λ r l. (refl, refl, refl, refl)))
+    (framed report (λ k s. beside-still [] s) refl) (quietly report (λ r l. (refl, refl, refl, refl, refl)))
 proved (bus n m r t) =
     row (bus n m r t) (λ k s. (refl, refl)) (λ k s l g a p. refl) (inl (λ m. refl)) (bus-keeps n m r t) (bus-agrees n m r t) (bus-same n m r t)
-    (framed (bus n m r t) (λ k s. beside-of (wrote-makeBus s n m r t)) refl) (quietly (bus n m r t) (λ r l. (refl, refl, refl, refl)))
+    (framed (bus n m r t) (λ k s. beside-of (wrote-makeBus s n m r t)) refl) (quietly (bus n m r t) (λ r l. (refl, refl, refl, refl, refl)))
 proved (publish b payload) =
     row (publish b payload) (λ k s. (refl, refl)) (λ k s l g a p. refl) (inl (λ m. refl)) (publish-keeps b payload) (publish-agrees b payload) (publish-same b payload)
     (framed (publish b payload) (λ k s. beside-broadcast k s b payload) refl) (quietly (publish b payload)
-    (λ r l. split (busFull l b) (λ q. rw q (refl, refl, refl, refl)) (λ q. rw q (refl, refl, refl, refl))))
+    (λ r l. split (busFull l b) (λ q. rw q (refl, refl, refl, refl, refl)) (λ q. rw q (refl, refl, refl, refl, refl))))
 proved (subscribe b) =
     row (subscribe b) (λ k s. (refl, refl)) (λ k s l g a p. refl) (inl (λ m. refl)) (subscribe-keeps b) (subscribe-agrees b) (subscribe-same b)
-    (framed (subscribe b) (λ k s. beside-of (wrote-sitDown s b _ (runner s))) refl) (quietly (subscribe b) (λ r l. (refl, refl, refl, refl)))
+    (framed (subscribe b) (λ k s. beside-of (wrote-sitDown s b _ (runner s))) refl) (quietly (subscribe b) (λ r l. (refl, refl, refl, refl, refl)))
 proved (unsubscribe b) =
     row (unsubscribe b) (λ k s. (refl, refl)) (λ k s l g a p. refl) (inl (λ m. refl)) (unsubscribe-keeps b) (unsubscribe-agrees b) (unsubscribe-same b)
-    (framed (unsubscribe b) (λ k s. beside-of (wrote-standUp k s b _)) refl) (quietly (unsubscribe b) (λ r l. (refl, refl, refl, refl)))
+    (framed (unsubscribe b) (λ k s. beside-of (wrote-standUp k s b _)) refl) (quietly (unsubscribe b) (λ r l. (refl, refl, refl, refl, refl)))
 proved (read b room) =
     row (read b room) (λ k s. (refl, read-works b room k s)) (λ k s l g a p. refl) (inl (λ m. refl)) (read-keeps b room) (read-agrees b room) (read-same b room)
     (framed (read b room) (beside-read b room) refl) (quietly (read b room)
-    (λ r l. let e = reading-else b (l .people .running) (oldestUnread l b) l in rw (e .0, e .1) (refl, refl, refl, refl)))
+    (λ r l. let e = reading-else b (l .people .running) (oldestUnread l b) l in rw (e .0, e .1, e .2) (refl, refl, refl, refl, refl)))
 
 -- ---- WHAT IS SO OF EVERY CALL
 -- no work is heard as a refusal

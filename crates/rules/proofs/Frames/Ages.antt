@@ -68,7 +68,7 @@ spawn-framed priority = record {
 
 -- after and every raise that of a slot of timers
 module _ (delay interval : ℕ) (bad : Bool) where
-  arm-raised : (k : Caps) (s : State) → armEntry delay interval bad .work k s .state TIMER-AGE ≡ aged (s TIMER-AGE) (timerFor k s)
+  pub arm-raised : (k : Caps) (s : State) → armEntry delay interval bad .work k s .state TIMER-AGE ≡ aged (s TIMER-AGE) (timerFor k s)
   arm-raised k s = use-begins timerPool s (timerFor k s) (suc (runner s - 1)) ((head s CLOCK + delay) ∷ interval ∷ []) refl refl .age
 
   pub arm-ages : (k : Caps) (s : State) → All (Grown s (armEntry delay interval bad .work k s .state)) AGES

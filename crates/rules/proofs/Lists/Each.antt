@@ -1,13 +1,15 @@
 -- Something is so of each of a list: of its parts, of what is read of it, of one of it. Nothing here knows a call.
 use Prim.Native.Nat.{ℕ, zero, suc, _<_}
 use native.Mathlib.Omega.{arith}
-use mathlib.Core.Path.{_≡_, refl}
+use mathlib.Core.Path.{_≡_, refl, sym}
 use mathlib.Core.Bool.{Bool, true, false}
 use mathlib.Core.List.{List, [], _∷_, _++_, map}
 use lib.Dec.{eqb}
 use borrow.Author.Tests.{eqb-true}
 use Rattle.ledger.specs.Lists.{first, some, those}
-use Rattle.pools.proofs.BoolLaws.{and-left, and-right, split, true-false}
+use Rattle.pools.specs.Pool.{occurs}
+use Rattle.pools.proofs.ListLaws.{occurs-head, occurs-tail}
+use Rattle.pools.proofs.BoolLaws.{and-left, and-right, neither, split, true-false}
 use Rattle.rules.specs.Agrees.{upTo}
 use Rattle.rules.proofs.Frames.Wrote.{All, mem, within}
 
@@ -22,6 +24,18 @@ module _ (P : ℕ → Type 0) where
   pub all-within : (ds cs : List ℕ) → within ds cs ≡ true → All P cs → All P ds
   all-within [] cs e h = tt
   all-within (d ∷ ds) cs e h = (all-one cs h d (and-left (mem d cs) (within ds cs) e), all-within ds cs (and-right (mem d cs) (within ds cs) e) h)
+
+  -- ---- of each number that stands in a list
+  -- where it is so of whatever stands there
+  pub all-standing : (es : List ℕ) → ((e : ℕ) → 0 < occurs e es → P e) → All P es
+  all-standing [] h = tt
+  all-standing (x ∷ es) h = (h x (occurs-head x es), all-standing es (λ e o. h e (occurs-tail e x es o)))
+
+  -- and back
+  pub all-stands : (es : List ℕ) → All P es → (e : ℕ) → 0 < occurs e es → P e
+  unfolding occurs
+  all-stands [] h e o = absurd (omega arith)
+  all-stands (x ∷ es) h e o = split (eqb x e) (λ q. rw (sym (eqb-true x e q)) (h .0)) (λ q. all-stands es (h .1) e (omega (arith, rw q at o)))
 
 -- ---- of each of any list
 module _ {A : Type 0} (P : A → Type 0) where
@@ -64,6 +78,12 @@ pub all-none : {A : Type 0} (p : A → Bool) (xs : List A) → All (λ (x : A). 
 unfolding some
 all-none p [] h = refl
 all-none p (x ∷ xs) h = rw (h .0) (all-none p xs (h .1))
+
+-- and back
+pub none-all : {A : Type 0} (p : A → Bool) (xs : List A) → some p xs ≡ false → All (λ (x : A). p x ≡ false) xs
+unfolding some
+none-all p [] e = tt
+none-all p (x ∷ xs) e = let (y, z) = neither (p x) (some p xs) e in (y, none-all p xs z)
 
 -- another thing, that follows from it
 pub all-then : {A : Type 0} (P Q : A → Type 0) (xs : List A) → ((x : A) → P x → Q x) → All P xs → All Q xs

@@ -1,14 +1,20 @@
 -- The beat of a periodic timer: its due times lie whole numbers of intervals apart. The rule works the next one out by a division, the reckoning goes an interval at a time; both come to the same.
 use Prim.Native.Nat.{ℕ, zero, suc, _+_, _-_, _*_, _/_, _≤_, _<_}
-use native.Mathlib.Nat.{div-mul-le-self, le-mul-of-pos-right, lt-mul-div-succ, mul-comm, mul-le-mul-left, mul-suc, mul-zero}
+use native.Mathlib.Nat.{div-mul-le-self, le-mul-of-pos-right, lt-mul-div-succ, mul-add, mul-comm, mul-le-mul-left, mul-suc, mul-zero}
 use native.Mathlib.Omega.{arith}
 use mathlib.Core.Path.{_≡_, refl, sym, ap, _∙_}
-use mathlib.Core.Bool.{true, false}
-use lib.Dec.{ltb}
+use mathlib.Core.Bool.{Bool, true, false, cond, not}
+use mathlib.Core.List.{List, [], _∷_}
+use lib.Dec.{eqb, ltb}
 use borrow.Author.Tests.{le-ltb, lt-ltb, ltb-false, ltb-true}
-use Rattle.ledger.specs.Reckon.{pastClock}
+use Rattle.ledger.specs.Beat.{OnBeat}
+use Rattle.ledger.specs.Ledger.{Ledger, Time, Timer}
+use Rattle.ledger.specs.Reckon.{armed, dueAgain, endTimers, fires, firing, later, pastClock, rearmed, sent, soonest, tick}
 use Rattle.pools.proofs.BoolLaws.{split}
+use Rattle.tables.specs.Limits.{CLOCK-END, DUE-END, LONGEST}
 use Rattle.rules.specs.Calls.{nextBeat}
+use Rattle.rules.proofs.Frames.Wrote.{All}
+use Rattle.rules.proofs.Lists.Each.{all-both, all-map, all-then, all-those}
 
 -- ---- the rule's next beat
 module _ (due interval clock : ℕ) (some : interval ≡ 0 → ⊥) where
@@ -43,10 +49,18 @@ module _ (due interval clock : ℕ) (some : interval ≡ 0 → ⊥) where
     unfolding nextBeat
     beat-most = omega (arith, fit-long)
 
-    -- THE LAW: no smaller number of intervals brings it past the clock
-    pub beat-least : (n : ℕ) → clock < due + interval * n → fit + 1 ≤ n
-    beat-least n h =
-        split (ltb fit n) (λ q. omega (arith, ltb-true fit n q)) (λ q. absurd (omega (arith, within, h, mul-le-mul-left interval (ltb-false fit n q))))
+    -- so it cannot pass the end of due times
+    pub beat-ends : clock ≤ CLOCK-END → interval ≤ LONGEST → nextBeat due interval clock ≤ DUE-END
+    beat-ends c i = omega (arith, beat-most, c, i)
+
+    -- THE LAW: it is the old due time plus the smallest whole number of intervals that brings it past the clock
+    pub smallest : (n : ℕ) × (nextBeat due interval clock ≡ due + interval * n) × (clock < due + interval * n) × ((m : ℕ) → clock < due + interval * m → n ≤ m)
+    unfolding nextBeat
+    smallest = (fit + 1, refl, omega (arith, over), fewest)
+      where
+        -- fewer intervals fit before the clock
+        fewest : (m : ℕ) → clock < due + interval * m → fit + 1 ≤ m
+        fewest m h = split (ltb fit m) (λ q. omega (arith, ltb-true fit m q)) (λ q. absurd (omega (arith, within, h, mul-le-mul-left interval (ltb-false fit m q))))
 
 -- ---- an interval at a time
 module _ (clock interval : ℕ) where
@@ -96,3 +110,62 @@ beat-same due interval clock some come =
     steps-to clock interval m clock due (omega (arith, within due interval clock some)) (omega (arith, over due interval clock some))
     (omega (arith, fit-few due interval clock some))
     ∙ ap (λ (x : ℕ). due + interval * x) (omega arith)
+
+-- ---- a metronome in the reckoning
+-- every timer of that id is on its beat
+abbrev pub Beating : (id first interval : ℕ) → Time → Type 0
+Beating id first interval x = All (λ (t : Timer). t .id ≡ id → OnBeat first interval (x .clock) t) (x .timers)
+
+module _ (id first interval : ℕ) where
+  -- it is so still once the clock is raised
+  later-beats : (micros : ℕ) (l : Ledger) → Beating id first interval (l .time) → Beating id first interval (later micros l .time)
+  later-beats micros l h =
+      all-then (λ t. t .id ≡ id → OnBeat first interval (l .time .clock) t) (λ t. t .id ≡ id → OnBeat first interval (l .time .clock + micros) t) (l .time .timers)
+      (λ t b e. record { kept = b e .kept; times = b e .times; whole = b e .whole; soon = omega (arith, b e .soon) }) h
+
+  -- a timer that is due again is on its beat where it was
+  again : (clock : ℕ) (t : Timer) → OnBeat first interval clock t → OnBeat first interval clock (dueAgain clock t)
+  again clock t b =
+      let (m, e) = steps-whole clock (t .interval) (suc clock) (t .due) in
+      record {
+        kept = b .kept;
+        times = b .times + m;
+        whole = e ∙ rw (b .kept, b .whole) (omega (arith, mul-add interval (b .times) m));
+        soon = rw (b .kept) (steps-most clock interval (suc clock) (t .due) (b .soon));
+      }
+
+  -- where one fires
+  rearmed-beats : (l : Ledger) (t : Timer) → Beating id first interval (l .time) → Beating id first interval (rearmed l t .time)
+  unfolding rearmed endTimers
+  rearmed-beats l t h =
+      let clock = l .time .clock in
+      let P : Timer → Type 0 = λ u. u .id ≡ id → OnBeat first interval clock u in
+      split (eqb (t .interval) 0)
+      (λ q. rw q (all-those P (λ u. not (eqb (u .id) (t .id))) (l .time .timers) h))
+      (λ q. rw q (all-map P (λ u. cond (eqb (u .id) (t .id)) (dueAgain clock u) u) P (l .time .timers)
+      (λ u b. split (eqb (u .id) (t .id)) (λ r. rw r (λ e. again clock u (b e))) (λ r. rw r b)) h))
+
+  -- where some fire, one after the other
+  firing-beats : (ts : List Timer) (l : Ledger) → Beating id first interval (l .time) → Beating id first interval (firing ts l .time)
+  unfolding firing
+  firing-beats [] l h = h
+  firing-beats (t ∷ ts) l h = firing-beats ts (sent (tick t ∷ []) (rearmed l t)) (rearmed-beats l t h)
+
+  -- n times the soonest
+  fires-beats : (n : ℕ) (l : Ledger) → Beating id first interval (l .time) → Beating id first interval (fires n l .time)
+  unfolding fires
+  fires-beats zero l h = h
+  fires-beats (suc n) l h = let ts = soonest (l .time .clock) (l .time .timers) in fires-beats n (firing ts l) (firing-beats ts l h)
+
+  -- THE LAW: an advance leaves it on its beat, however late it is
+  pub advance-beats : (n micros : ℕ) (l : Ledger) → Beating id first interval (l .time) → Beating id first interval (fires n (later micros l) .time)
+  advance-beats n micros l h = fires-beats n (later micros l) (later-beats micros l h)
+
+  -- where another is armed
+  pub armed-beats : (delay period r : ℕ) (l : Ledger) → (r ≡ id → ⊥) → Beating id first interval (l .time) → Beating id first interval (armed delay period r l .time)
+  armed-beats delay period r l other h = all-both (λ t. t .id ≡ id → OnBeat first interval (l .time .clock) t) (l .time .timers) (_ ∷ []) h (λ e. absurd (other e), tt)
+
+  -- where some end
+  pub ended-beats : (p : Timer → Bool) (l : Ledger) → Beating id first interval (l .time) → Beating id first interval (endTimers p l .time)
+  unfolding endTimers
+  ended-beats p l h = all-those (λ t. t .id ≡ id → OnBeat first interval (l .time .clock) t) (λ t. not (p t)) (l .time .timers) h

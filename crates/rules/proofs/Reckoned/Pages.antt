@@ -1,16 +1,18 @@
--- What each page of the reckoning does to the mailboxes and to who is known.
+-- What each page of the reckoning does to the mailboxes, to who is known and to a metronome.
 use Prim.Native.Nat.{ℕ, zero, suc}
 use mathlib.Core.Path.{_≡_, refl, sym, ap, subst, _∙_}
+use mathlib.Core.Logic.{_⊎_}
 use mathlib.Core.Bool.{Bool, true, false, _||_}
 use mathlib.Core.List.{List, [], _∷_, _++_, map, append-assoc, append-nil, map-append}
 use lib.Dec.{eqb}
 use Rattle.ledger.specs.Call.{Op}
-use Rattle.ledger.specs.Call.Op.{spawn}
+use Rattle.ledger.specs.Call.Op.{after, every, spawn}
 use Rattle.ledger.specs.Ledger.{Actor, Ledger, Mail, Message, Timer, Value}
 use Rattle.ledger.specs.Lists.{butFirst, some, those}
 use Rattle.ledger.specs.Reckon.{endTimers, firedTimers, fires, firing, page, reading, rearmed, sent, soonest, tick, ticks}
 use Rattle.ledger.specs.Room.{known}
 use Rattle.pools.proofs.BoolLaws.{split, true-false}
+use Rattle.rules.proofs.Reckoned.Beats.{Beating}
 
 -- ---- one list of messages
 module _ {A : Type 0} (q : A → Bool) where
@@ -112,11 +114,11 @@ fires-does (suc n) l =
       h .1 ∙ e .1,
     )
 
--- ---- a value that is read, or none: nothing is sent, and nobody changes
-pub reading-else : (b id : ℕ) (vs : List Value) (l : Ledger) → (reading b id vs l .mail ≡ l .mail) × (reading b id vs l .people ≡ l .people)
+-- ---- a value that is read, or none: nothing is sent, and neither anybody nor a timer changes
+pub reading-else : (b id : ℕ) (vs : List Value) (l : Ledger) → (reading b id vs l .mail ≡ l .mail) × (reading b id vs l .people ≡ l .people) × (reading b id vs l .time ≡ l .time)
 unfolding reading
-reading-else b id [] l = (refl, refl)
-reading-else b id (v ∷ vs) l = (refl, refl)
+reading-else b id [] l = (refl, refl, refl)
+reading-else b id (v ∷ vs) l = (refl, refl, refl)
 
 -- ---- who is known
 -- who is among the actors and one more is among them or is that one
@@ -124,6 +126,21 @@ pub more-some : (p : Actor → Bool) (xs : List Actor) (y : Actor) → some p (x
 unfolding some
 more-some p [] y e n = true-false (p y || false) e (rw n)
 more-some p (x ∷ xs) y e n = split (p x) (λ a. rw a) (λ a. rw a (more-some p xs y (rw a at e) n))
+
+-- ---- a metronome
+-- a call that arms a timer
+abbrev pub Arms : Op → Type 0
+Arms o = ((delay : ℕ) × (o ≡ after delay)) ⊎ ((interval : ℕ) × (o ≡ every interval))
+
+-- a metronome stays on its beat: where the call was done, unless it armed another timer under that id, and where it was not met
+abbrev pub Steady : Op → Type 0
+Steady o =
+    ((id first interval r : ℕ) (l : Ledger) → (Arms o → r ≡ id → ⊥) → Beating id first interval (l .time) → Beating id first interval (page o .done r l .time))
+    × ((id first interval n : ℕ) (l : Ledger) → Beating id first interval (l .time) → Beating id first interval (page o .unmet n l .time))
+
+-- as of a call that leaves the clock and the timers
+pub steadily : (o : Op) → ((n : ℕ) (l : Ledger) → (page o .done n l .time ≡ l .time) × (page o .unmet n l .time ≡ l .time)) → Steady o
+steadily o e = (λ id first interval r l m h. subst (Beating id first interval) (sym (e r l .0)) h, λ id first interval n l h. subst (Beating id first interval) (sym (e n l .1)) h)
 
 -- ---- THE LAWS OF A PAGE
 pub record Paged (o : Op) : Type 0 where
@@ -133,13 +150,22 @@ pub record Paged (o : Op) : Type 0 where
   -- who is known was, or is the actor that was spawned
   pub knows : (id r : ℕ) (l : Ledger) → ((priority : ℕ) → o ≡ spawn priority → r ≡ id → ⊥) → known (page o .done r l) id ≡ true → known l id ≡ true
   pub knew : (id n : ℕ) (l : Ledger) → known (page o .unmet n l) id ≡ true → known l id ≡ true
+  -- a metronome stays on its beat
+  pub steady : Steady o
 
 -- a page that sends nothing, leaves the mailboxes and who is alive, and is always met
-pub quietly : (o : Op) → ((r : ℕ) (l : Ledger) →
-    (page o .done r l .mail .boxes ≡ l .mail .boxes) × (page o .sends l ≡ []) × (page o .done r l .people .live ≡ l .people .live) × (page o .unmet r l ≡ l)) → Paged o
-quietly o h = record {
+pub silently : (o : Op) → ((r : ℕ) (l : Ledger) →
+    (page o .done r l .mail .boxes ≡ l .mail .boxes) × (page o .sends l ≡ []) × (page o .done r l .people .live ≡ l .people .live) × (page o .unmet r l ≡ l)) → Steady o → Paged o
+silently o h steady = record {
   order = λ r l. rw (h r l .0, h r l .1) (within-end (within-all (l .mail .boxes)));
   boxes = λ n l. rw (h n l .3);
   knows = λ id r l n e. rw (h r l .2) at e;
   knew = λ id n l e. rw (h n l .3) at e;
+  steady = steady;
 }
+
+-- and the clock and the timers too
+pub quietly : (o : Op) → ((r : ℕ) (l : Ledger) →
+    (page o .done r l .mail .boxes ≡ l .mail .boxes) × (page o .sends l ≡ []) × (page o .done r l .people .live ≡ l .people .live) × (page o .unmet r l ≡ l)
+    × (page o .done r l .time ≡ l .time)) → Paged o
+quietly o h = silently o (λ r l. let e = h r l in (e .0, e .1, e .2, e .3)) (steadily o (λ r l. (h r l .4, ap (λ (m : Ledger). m .time) (h r l .3))))
