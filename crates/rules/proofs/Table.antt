@@ -1,9 +1,9 @@
 -- What is proved of each call but start (Kept/Start.antt), in one table; and from it what is so of every call. Claims.antt says what is to be proved.
-use Prim.Native.Nat.{ℕ, _-_, _≤_}
+use Prim.Native.Nat.{ℕ, _-_}
 use native.Mathlib.Omega.{arith}
 use mathlib.Core.Path.{_≡_, refl, sym, ap, subst, _∙_}
 use mathlib.Core.Logic.{_⊎_, inl, inr, ⊎-elim, _↔_}
-use mathlib.Core.Bool.{Bool, true, false, not, _&&_, _||_}
+use mathlib.Core.Bool.{Bool, true, false, not, _&&_}
 use mathlib.Core.List.{List, [], _∷_, _++_, map}
 use lib.IntN.{ℤ}
 use lib.Dec.{eqb, ltb}
@@ -19,8 +19,8 @@ use Rattle.ledger.specs.Lists.{some, those}
 use Rattle.ledger.specs.Room.{busFull, holds, idle, oldestUnread}
 use Rattle.pools.proofs.BoolLaws.{and-right, split, true-false}
 use Rattle.tables.specs.declared.Caps.{Caps}
-use Rattle.tables.specs.Columns.{AGE, ARRIVED, ISSUED, QUEUED, RUNNING}
-use Rattle.tables.specs.Limits.{LEVELS, LONGEST}
+use Rattle.tables.specs.Columns.{ARRIVED, ISSUED, QUEUED, RUNNING}
+use Rattle.tables.specs.Limits.{LEVELS}
 use Rattle.tables.specs.State.{State, at, head}
 use Rattle.rules.specs.Aged.{monitorPool, timerPool}
 use Rattle.rules.specs.Terms.{runner}

@@ -11,7 +11,7 @@ use Rattle.ledger.specs.Ledger.{Ledger, Link, ties, withTies}
 use Rattle.ledger.specs.Reckon.{clears, cleared, disarms, endLinks, endMonitors, endReaders, endTimers, partnerNotes, parts, quits, sent, unlinks, unsees, unwatches, watcherNotes}
 use Rattle.pools.proofs.BoolLaws.{split}
 use Rattle.tables.specs.declared.Caps.{Caps}
-use Rattle.tables.specs.Columns.{BUSES, DUE, HAND, INTERVAL, LINK-ONE, LINK-TWO, MAIL-OWNER, SEAT, STATE, TIMER-OWNER, WATCHED, WATCHER}
+use Rattle.tables.specs.Columns.{BUSES, DUE, HAND, INTERVAL, LINK-ONE, LINK-TWO, MAIL-OWNER, MONITOR-AGE, SEAT, STATE, TIMER-OWNER, WATCHED, WATCHER}
 use Rattle.tables.specs.State.{State, head}
 use Rattle.rules.specs.Terms.{actorId, alive}
 use Rattle.rules.specs.Aged.{monitorPool, timerPool}
@@ -146,7 +146,7 @@ module _ (k : Caps) (s : State) (a reason : ℕ) (w : Going k a (actorId s a) s)
       let z = monitors-along k l s a (actorId s a) reason (k .monitors) (omega arith) w r in
       let v = z .1 .agrees in
       let left = eyes-stay k s l (w .good) r a (w .there) ∙ v .monitors .are in
-      let worn = eyes-worn k s l (w .good) r a (w .there) (t .state) (c .age) (c .watcher) in
+      let worn = eyes-worn k s l (w .good) r a (w .there) (t .state) (c .wrote .cols MONITOR-AGE refl) (c .watcher) in
       along-told k watcherNotes (λ me. endMonitors (λ m. eqb (m .target) me)) (actorId s a) reason l _ _ t (c .going .good) (z .1)
       (sym (eye-notices k s l (w .good) r a reason (w .there)))
       (agrees-monitors (wrote-none (t .state)) v _ _ refl refl

@@ -8,7 +8,7 @@ use lib.Dec.{eqb, ltb}
 use Rattle.pools.proofs.BoolLaws.{split}
 use Rattle.tables.specs.declared.Caps.{Caps}
 use Rattle.tables.specs.Columns.{ARRIVAL, ARRIVED, DATA-FREE, DEADLINE, DUE, HAND, INTERVAL, LENGTH, LINK-ONE, LINK-TWO, MAIL-DATA, MAIL-FREE, MAIL-OWNER}
-use Rattle.tables.specs.Columns.{MONITOR-AGE, PAYLOAD, QUEUE, QUEUED, REASON, RUNNING, SENDER, STATE, TIMER-AGE, TIMER-OWNER, WANT-CLASS, WANT-SENDER, WANT-TAG}
+use Rattle.tables.specs.Columns.{PAYLOAD, QUEUE, QUEUED, REASON, RUNNING, SENDER, STATE, TIMER-AGE, TIMER-OWNER, WANT-CLASS, WANT-SENDER, WANT-TAG}
 use Rattle.tables.specs.Columns.{WATCHED, WATCHER}
 use Rattle.tables.specs.State.{State, at, head}
 use Rattle.rules.specs.Aged.{timerPool}

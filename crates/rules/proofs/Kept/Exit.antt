@@ -15,7 +15,7 @@ use Rattle.pools.proofs.PoolLaws.{lowest-at, lowest-first}
 use Rattle.records.specs.Header.{packed}
 use Rattle.records.specs.Records.{exitBytes}
 use Rattle.tables.specs.declared.Caps.{Caps}
-use Rattle.tables.specs.Columns.{AGE, HAND, LINK-ONE, LINK-TWO, MAIL-OWNER, MONITOR-AGE, STATE, WATCHED, WATCHER}
+use Rattle.tables.specs.Columns.{AGE, HAND, LINK-ONE, LINK-TWO, MAIL-OWNER, STATE, WATCHED, WATCHER}
 use Rattle.tables.specs.State.{Sized, State, at, poke, with-col}
 use Rattle.tables.specs.Action.{push, takeBit, write}
 use Rattle.rules.specs.Terms.{alive, joins, monitorId}
@@ -192,7 +192,6 @@ cut-none k s a me w = record { going = w; wrote = wrote-still LINK-CUT s; joined
 pub record Unseen (k : Caps) (a me n : ℕ) (s u : State) : Type 0 where
   pub going : Going k a me u
   pub wrote : Wrote EYE-CUT s u
-  pub age : u MONITOR-AGE ≡ s MONITOR-AGE
   pub watcher : (e : ℕ) → at u WATCHER e ≡ cond (below (s WATCHED) (suc a) n e) 0 (at s WATCHER e)
   pub watched : (e : ℕ) → at u WATCHED e ≡ cond (below (s WATCHED) (suc a) n e) 0 (at s WATCHED e)
 
@@ -224,7 +223,6 @@ unseen-one k s u a me i w l q =
     record {
       going = going-on (unwatch u i) (w .going) (unwatch-keeps k u i g l) (ap alive (x .wrote .cols STATE refl)) (x .wrote .cols AGE refl) (x .wrote .cols HAND refl) (rw (x .wrote .cols MAIL-OWNER refl) (w .going .mail));
       wrote = wrote-over EYE-CUT (w .wrote) (x .wrote) refl;
-      age = x .wrote .cols MONITOR-AGE refl ∙ w .age;
       watcher = λ e. x .gone WATCHER refl e ∙ ap (cond (eqb e i) 0) (w .watcher e) ∙ cond-twice (p e) (eqb e i) (at s WATCHER e) ∙ ap (λ (b : Bool). cond b 0 (at s WATCHER e)) (below-yes (s WATCHED) (suc a) i q e);
       watched = λ e. x .gone WATCHED refl e ∙ ap (cond (eqb e i) 0) (w .watched e) ∙ cond-twice (p e) (eqb e i) (at s WATCHED e) ∙ ap (λ (b : Bool). cond b 0 (at s WATCHED e)) (below-yes (s WATCHED) (suc a) i q e);
     }
@@ -246,7 +244,6 @@ cutMonitor-cuts k s t a me reason i l w =
     rw (cutMonitor-yes k a me reason i t q) (record {
       going = tell-going k v a (at u WATCHER i - 1) me reason (monitorId u i) (x .going) (rw (use-ends monitorPool u i .wrote .cols STATE refl) (f .1)) (f .2);
       wrote = wrote-over EYE-CUT (x .wrote) p refl;
-      age = p .cols MONITOR-AGE refl ∙ x .age;
       watcher = λ e. rw (p .cols WATCHER refl) (x .watcher e);
       watched = λ e. rw (p .cols WATCHED refl) (x .watched e);
     }))
@@ -254,7 +251,6 @@ cutMonitor-cuts k s t a me reason i l w =
     rw (cutMonitor-no k a me reason i t q) (record {
       going = w .going;
       wrote = w .wrote;
-      age = w .age;
       watcher = λ e. w .watcher e ∙ ap (λ (b : Bool). cond b 0 (at s WATCHER e)) (still e);
       watched = λ e. w .watched e ∙ ap (λ (b : Bool). cond b 0 (at s WATCHED e)) (still e);
     }))
@@ -267,7 +263,7 @@ cutMonitors-cuts k s t a me reason (suc n) l w = cutMonitor-cuts k s (cutMonitor
 
 -- before the first nothing has changed
 pub unseen-none : (k : Caps) (s : State) (a me : ℕ) → Going k a me s → Unseen k a me 0 s s
-unseen-none k s a me w = record { going = w; wrote = wrote-still EYE-CUT s; age = refl; watcher = λ e. rw (below-none (s WATCHED) (suc a) e); watched = λ e. rw (below-none (s WATCHED) (suc a) e) }
+unseen-none k s a me w = record { going = w; wrote = wrote-still EYE-CUT s; watcher = λ e. rw (below-none (s WATCHED) (suc a) e); watched = λ e. rw (below-none (s WATCHED) (suc a) e) }
 
 -- ---- none is left
 -- once the links with every slot are cut no link has slot a as an end

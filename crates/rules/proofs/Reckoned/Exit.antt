@@ -258,7 +258,7 @@ module _ (k : Caps) (l : Ledger) (s : State) (a me reason : ℕ) where
       let f : Monitor → ℕ → Bool = λ x i. seenBy s a i && eqb (x .id) (monitorId s i) in
       let n = unseen-next k s u a me i w in
       let same : eqb (at u WATCHED i) (suc a) ≡ seenBy s a i = ap (λ (x : ℕ). eqb x (suc a)) (n .0) in
-      let id : monitorId u i ≡ monitorId s i = ap (λ (c : List ℕ). idOf MONITOR-FACTOR (getD c i 0) i) (w .age) in
+      let id : monitorId u i ≡ monitorId s i = ap (λ (c : List ℕ). idOf MONITOR-FACTOR (getD c i 0) i) (w .wrote .cols MONITOR-AGE refl) in
       split (eqb (at u WATCHED i) (suc a))
       (λ y. let o = watcher-there k u a i g m (eqb-true (at u WATCHED i) (suc a) y) in
       let sn : seenBy s a i ≡ true = sym same ∙ y in

@@ -1,16 +1,15 @@
 -- A metronome does not drift: for as long as a periodic timer lives, until a new start, each of its due times is its first plus a whole number of its intervals.
-use Prim.Native.Nat.{ℕ, _+_, _-_, _*_, _<_}
+use Prim.Native.Nat.{ℕ, _+_, _<_}
 use native.Mathlib.Nat.{mul-zero}
 use native.Mathlib.Omega.{arith}
 use mathlib.Core.Path.{_≡_, refl, sym, ap, subst, _∙_}
 use mathlib.Core.Logic.{_⊎_, ⊎-elim}
 use mathlib.Core.Bool.{Bool, true, false, not, _||_}
-use mathlib.Core.List.{List, [], _∷_, _++_, map}
-use lib.ListN.{length}
+use mathlib.Core.List.{List, [], _∷_}
 use lib.Dec.{eqb, ltb, lit<}
-use borrow.Author.Tests.{eqb-false, eqb-true, eq-eqb, ltb-true, ne-eqb, not-false, not-true}
+use borrow.Author.Tests.{eqb-false, eqb-true, ltb-true, ne-eqb, not-false, not-true}
 use Rattle.ledger.specs.Beat.{OnBeat}
-use Rattle.ledger.specs.Call.{Answer, Call, Line, Op, Why, code, idTold, number, refuses}
+use Rattle.ledger.specs.Call.{Answer, Call, Line, Op, code, idTold, number, refuses}
 use Rattle.ledger.specs.Call.Answer.{made}
 use Rattle.ledger.specs.Call.Call.{start, op}
 use Rattle.ledger.specs.Call.Op.{after, every}
