@@ -165,7 +165,8 @@ struct fg_place fg_shown(FG_BUFFERS);
 /* Arms a timer that ticks once, after so many microseconds, and answers its id. */
 struct fg_made fg_after(FG_BUFFERS, uint64_t delay);
 
-/* Arms a timer that ticks every so many microseconds, from 1, and answers its id. */
+/* Arms a timer that ticks every so many microseconds, from 1, and answers its id. It keeps its beat: however late fg_advance is
+ * called, it is due whole intervals after it was armed. Beats that were missed meanwhile give one tick. */
 struct fg_made fg_every(FG_BUFFERS, uint64_t interval);
 
 /* Ends a timer of the caller; ticks already queued stay. */

@@ -17,34 +17,34 @@ use Rattle.rules.proofs.Frames.Wrote.{All}
 use Rattle.rules.proofs.Lists.Each.{all-both, all-map, all-then, all-those}
 
 -- ---- the rule's next beat
-module _ (due interval clock : ℕ) (some : interval ≡ 0 → ⊥) where
+module _ (due interval clock : ℕ) (periodic : interval ≡ 0 → ⊥) where
   -- how many intervals fit between the due time and the clock
   abbrev fit : ℕ
   fit = (clock - due) / interval
 
+  -- so many do
+  within : interval * fit ≤ clock - due
+  within = omega (arith, div-mul-le-self (clock - due) interval, mul-comm interval fit)
+
   -- one more do not
   over : clock - due < interval * (fit + 1)
   over = lt-mul-div-succ (clock - due) (omega arith)
+
+  -- and are too long by one interval at most
+  pub fit-long : interval * (fit + 1) ≤ clock - due + interval
+  fit-long = omega (arith, within, mul-suc interval fit)
+
+  -- no more fit than there are microseconds
+  pub fit-few : fit ≤ clock - due
+  fit-few = omega (arith, within, mul-comm interval fit, le-mul-of-pos-right {m = interval} fit (omega arith))
 
   -- THE LAW: the next beat is past the clock
   pub beat-past : clock < nextBeat due interval clock
   unfolding nextBeat
   beat-past = omega (arith, over)
 
-  -- so many do
-  within : interval * fit ≤ clock - due
-  within = omega (arith, div-mul-le-self (clock - due) interval, mul-comm interval fit)
-
-  -- they are no more than the microseconds between
-  pub fit-few : fit ≤ clock - due
-  fit-few = omega (arith, within, mul-comm interval fit, le-mul-of-pos-right {m = interval} fit (omega arith))
-
-  -- and with one more they are longer than that by an interval at most
-  pub fit-long : interval * (fit + 1) ≤ clock - due + interval
-  fit-long = omega (arith, within, mul-suc interval fit)
-
   module _ (come : due ≤ clock) where
-    -- THE LAW: the next beat is past the clock by one interval at most
+    -- THE LAW: it is past the clock by one interval at most
     pub beat-most : nextBeat due interval clock ≤ clock + interval
     unfolding nextBeat
     beat-most = omega (arith, fit-long)
@@ -53,23 +53,24 @@ module _ (due interval clock : ℕ) (some : interval ≡ 0 → ⊥) where
     pub beat-ends : clock ≤ CLOCK-END → interval ≤ LONGEST → nextBeat due interval clock ≤ DUE-END
     beat-ends c i = omega (arith, beat-most, c, i)
 
+    -- fewer intervals than one more than fit do not bring the due time past the clock
+    fewest : (m : ℕ) → clock < due + interval * m → fit + 1 ≤ m
+    fewest m h =
+        split (ltb fit m) (λ q. omega (arith, ltb-true fit m q)) (λ q. absurd (omega (arith, within, h, mul-le-mul-left interval (ltb-false fit m q))))
+
     -- THE LAW: it is the old due time plus the smallest whole number of intervals that brings it past the clock
     pub smallest : (n : ℕ) × (nextBeat due interval clock ≡ due + interval * n) × (clock < due + interval * n) × ((m : ℕ) → clock < due + interval * m → n ≤ m)
     unfolding nextBeat
     smallest = (fit + 1, refl, omega (arith, over), fewest)
-      where
-        -- fewer intervals fit before the clock
-        fewest : (m : ℕ) → clock < due + interval * m → fit + 1 ≤ m
-        fewest m h = split (ltb fit m) (λ q. omega (arith, ltb-true fit m q)) (λ q. absurd (omega (arith, within, h, mul-le-mul-left interval (ltb-false fit m q))))
 
 -- ---- an interval at a time
 module _ (clock interval : ℕ) where
   -- it comes past the clock where the steps are enough
   pub steps-past : (n due : ℕ) → (interval ≡ 0 → ⊥) → clock < due + n → clock < pastClock clock interval n due
   unfolding pastClock
-  steps-past zero due some h = omega (arith, h)
-  steps-past (suc n) due some h =
-      split (ltb clock due) (λ q. rw q (ltb-true clock due q)) (λ q. rw q (steps-past n (due + interval) some (omega arith)))
+  steps-past zero due periodic h = omega (arith, h)
+  steps-past (suc n) due periodic h =
+      split (ltb clock due) (λ q. rw q (ltb-true clock due q)) (λ q. rw q (steps-past n (due + interval) periodic (omega arith)))
 
   -- by one interval at most, where it was no further before
   pub steps-most : (n due : ℕ) → due ≤ clock + interval → pastClock clock interval n due ≤ clock + interval
@@ -105,10 +106,10 @@ module _ (clock interval : ℕ) where
 -- THE LAW: the reckoning's next due time is the rule's
 pub beat-same : (due interval clock : ℕ) → (interval ≡ 0 → ⊥) → due ≤ clock → pastClock clock interval (suc clock) due ≡ nextBeat due interval clock
 unfolding nextBeat
-beat-same due interval clock some come =
-    let m = fit due interval clock some in
-    steps-to clock interval m clock due (omega (arith, within due interval clock some)) (omega (arith, over due interval clock some))
-    (omega (arith, fit-few due interval clock some))
+beat-same due interval clock periodic come =
+    let m = fit due interval clock periodic in
+    steps-to clock interval m clock due (omega (arith, within due interval clock periodic)) (omega (arith, over due interval clock periodic))
+    (omega (arith, fit-few due interval clock periodic))
     ∙ ap (λ (x : ℕ). due + interval * x) (omega arith)
 
 -- ---- a metronome in the reckoning
