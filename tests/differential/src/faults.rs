@@ -8,7 +8,7 @@ use model::state::{Activity, Reason, State};
 use model::{Advanced, Ended, Model, DONE};
 use std::sync::OnceLock;
 
-pub const NAMES: [&str; 33] = [
+pub const NAMES: [&str; 35] = [
     "all-unsound",
     "next-names-slot-0",
     "notify-stores-nothing",

@@ -194,7 +194,8 @@ fn due(m: &Model, slot: usize) -> u64 {
 fn a_metronome_that_fires_late_keeps_its_beat() {
     let mut m = running(LARGE, 1);
     assert_eq!(m.every(10_000).id, 64);
-    for (step, fired, next) in [(13_000, 1, 20_000), (6_999, 0, 20_000), (1, 1, 30_000), (75_000, 1, 100_000), (4_999, 0, 100_000)] {
+    let advances = [(13_000, 1, 20_000), (6_999, 0, 20_000), (1, 1, 30_000), (75_000, 1, 100_000), (4_999, 0, 100_000)];
+    for (step, fired, next) in advances {
         assert_eq!(m.advance(step).fired, fired);
         assert_eq!(due(&m, 0), next);
     }
