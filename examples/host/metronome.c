@@ -3,7 +3,8 @@
  *
  * Each stroke keeps the board busy, and the runtime learns of it by an advance. Most take 3 ms. The third takes 13: the beat
  * of 40 ms comes while it lasts, and the fourth stroke is 3 ms late, but the fifth comes at 50. The sixth takes 26: of the
- * beats that come meanwhile, at 70 and 80 ms, the pump gets one tick, and the stroke after it is at 90 again.
+ * beats that come meanwhile, at 70 and 80 ms, the pump gets one tick, and the stroke after it is at 90 again. Its end takes
+ * its timer with it; the autopsy of its trace tells that the next beat would have been at 100.
  *
  * box.h has what it shares with the other boxes of this folder. With a file's name as its argument it also writes a trace of
  * its calls there, for ./replay and ./autopsy.
@@ -52,7 +53,6 @@ static void pump_turn(struct track *self, uint64_t why)
         expect(got.no, "receive");
         stroke(self);
     }
-    expect(fg_traced_cancel(BOX, self->timer), "cancel");
     end(self, FG_EXIT_NORMAL);
 }
 
