@@ -204,14 +204,14 @@ fn a_metronome_that_fires_late_keeps_its_beat() {
 #[test]
 fn a_metronome_without_room_stays_due_and_then_skips_to_its_beat() {
     let mut m = running([1, 1, 1, 0, 0, 1], 1);
-    assert_eq!(m.every(10).id, 64);
+    assert_eq!(m.every(1_000).id, 64);
     assert_eq!(m.notify(64, 0, &[]), DONE);
-    assert_eq!(m.advance(35).fired, 0);
-    assert_eq!(due(&m, 0), 10);
+    assert_eq!(m.advance(3_500).fired, 0);
+    assert_eq!(due(&m, 0), 1_000);
     assert_eq!(any(&mut m, 0).no, DONE);
     assert_eq!(any(&mut m, 0).no, NOTHING);
     assert_eq!(m.advance(0).fired, 1);
-    assert_eq!(due(&m, 0), 40);
+    assert_eq!(due(&m, 0), 4_000);
 }
 
 #[test]

@@ -129,6 +129,7 @@ fn print_worst_calls() {
     row(&worst::timers_armed(0), "64 timers due", Call::Advance(2_000));
     row(&worst::timers_armed(192), "64 timers due, 192 messages", Call::Advance(2_000));
     row(&worst::timers_armed(256), "64 timers due, 256 messages", Call::Advance(2_000));
+    row(&worst::metronomes_armed(), "64 metronomes due, most beats missed", Call::Advance(MAX_STEP));
     row(&worst::deadlines_near(), "63 deadlines over, 256 messages", Call::Advance(1_000_000));
     row(&worst::match_is_last(), "the match is the last of 256 messages", receive(1));
     row(&worst::match_is_last(), "no match among 256 messages", receive(2));

@@ -61,6 +61,15 @@ pub fn timers_armed(messages: u64) -> Stage {
     stage
 }
 
+/// All timers are periodic, and their intervals are short.
+pub fn metronomes_armed() -> Stage {
+    let mut stage = Stage::with_actors(LARGEST, LARGEST[0]);
+    for number in 0..LARGEST[5] {
+        stage.done(Call::Every(100 + number));
+    }
+    stage
+}
+
 /// All actors but the last wait, each with a deadline of its own, later slots with earlier ones; every pool of messages is full.
 pub fn deadlines_near() -> Stage {
     let mut stage = Stage::with_actors(LARGEST, LARGEST[0]);
