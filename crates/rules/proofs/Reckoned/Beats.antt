@@ -3,13 +3,13 @@ use Prim.Native.Nat.{ℕ, zero, suc, _+_, _-_, _*_, _/_, _≤_, _<_}
 use native.Mathlib.Nat.{div-mul-le-self, le-mul-of-pos-right, lt-mul-div-succ, mul-add, mul-comm, mul-le-mul-left, mul-suc, mul-zero}
 use native.Mathlib.Omega.{arith}
 use mathlib.Core.Path.{_≡_, refl, ap, _∙_}
-use mathlib.Core.Bool.{Bool, cond, not}
+use mathlib.Core.Bool.{Bool, not}
 use mathlib.Core.List.{List, [], _∷_}
 use lib.Dec.{eqb, ltb}
 use borrow.Author.Tests.{le-ltb, lt-ltb, ltb-false, ltb-true}
 use Rattle.ledger.specs.Beat.{OnBeat}
 use Rattle.ledger.specs.Ledger.{Ledger, Time, Timer}
-use Rattle.ledger.specs.Reckon.{armed, dueAgain, endTimers, fires, firing, later, pastClock, rearmed, sent, soonest, tick}
+use Rattle.ledger.specs.Reckon.{armed, dueAgain, endTimers, fires, firing, later, pastClock, rearmed, redue, sent, soonest, tick}
 use Rattle.pools.proofs.BoolLaws.{split}
 use Rattle.tables.specs.Limits.{CLOCK-END, DUE-END, LONGEST}
 use Rattle.rules.specs.Calls.{nextBeat}
@@ -143,7 +143,7 @@ module _ (id first interval : ℕ) where
       let P : Timer → Type 0 = λ u. u .id ≡ id → OnBeat first interval clock u in
       split (eqb (t .interval) 0)
       (λ q. rw q (all-those P (λ u. not (eqb (u .id) (t .id))) (l .time .timers) h))
-      (λ q. rw q (all-map P (λ u. cond (eqb (u .id) (t .id)) (dueAgain clock u) u) P (l .time .timers)
+      (λ q. rw q (all-map P (redue clock (t .id)) P (l .time .timers)
       (λ u b. split (eqb (u .id) (t .id)) (λ r. rw r (λ e. again clock u (b e))) (λ r. rw r b)) h))
 
   -- where some fire, one after the other

@@ -3,7 +3,7 @@ use Prim.Native.Nat.{ℕ, zero, suc, _+_, _-_, _*_, _%_, _≤_, _<_, min}
 use native.Mathlib.Omega.{arith}
 use mathlib.Core.Path.{_≡_, refl, sym, ap, ap₂, subst, _∙_}
 use mathlib.Core.Logic.{_⊎_, inl, inr, ⊎-elim}
-use mathlib.Core.Bool.{Bool, true, false, cond, not, _&&_}
+use mathlib.Core.Bool.{Bool, true, false, not, _&&_}
 use mathlib.Core.List.{List, [], _∷_, map}
 use lib.ListN.{length, getD, drop, length-append}
 use lib.Dec.{eqb, leb, ltb}
@@ -11,7 +11,7 @@ use borrow.Author.Tests.{eqb-true, eqb-false, eq-eqb, ltb-true, lt-leb, lt-ltb}
 use Rattle.ledger.specs.Ledger.{Ledger, Timer}
 use Rattle.ledger.specs.Limits.{TIMER-FACTOR}
 use Rattle.ledger.specs.Lists.{first, some, those, total}
-use Rattle.ledger.specs.Reckon.{dueAgain, dueNow, endTimers, firedTimers, firing, firings, rearmed, sooner, soonest, tick}
+use Rattle.ledger.specs.Reckon.{dueAgain, dueNow, endTimers, firedTimers, firing, firings, rearmed, redue, sooner, soonest, tick}
 use Rattle.ledger.specs.Room.{holdings, messagesLeft}
 use Rattle.pools.specs.Pool.{occurs}
 use Rattle.pools.proofs.BoolLaws.{split, true-false, and-left, and-right, and-true}
@@ -93,10 +93,6 @@ abbrev pub Once : Ledger → Type 0
 Once l = (id : ℕ) → length (those (isId id) (l .time .timers)) ≤ 1
 
 -- ---- the timers of an id are due again
--- the timers of an id with another due time
-abbrev redue : ℕ → ℕ → Timer → Timer
-redue clock id u = cond (eqb (u .id) id) (dueAgain clock u) u
-
 -- of those that are due, just they are not any more, where each has an interval
 redue-due : (clock id : ℕ) (ts : List Timer) → some (λ u. eqb (u .id) id && eqb (u .interval) 0) ts ≡ false →
     those (λ u. leb (u .due) clock) (map (redue clock id) ts) ≡ those (λ u. not (eqb (u .id) id)) (those (λ u. leb (u .due) clock) ts)

@@ -10,7 +10,7 @@ use lib.Dec.{eqb, ltb, leb, lit<}
 use borrow.Author.Tests.{eqb-true, eqb-false, eq-eqb, ne-eqb, not-true}
 use Rattle.ledger.specs.Ledger.{Ledger, time, withTime}
 use Rattle.ledger.specs.Lists.{first, some}
-use Rattle.ledger.specs.Reckon.{dueAgain, dueNow, rearmed, sooner, soonest}
+use Rattle.ledger.specs.Reckon.{dueAgain, dueNow, rearmed, redue, sooner, soonest}
 use Rattle.pools.specs.Pool.{occurs}
 use Rattle.pools.specs.Lists.{keep}
 use Rattle.pools.specs.Slot.{unused}
@@ -79,22 +79,21 @@ keep-few p j (x ∷ es) h =
 module _ (k : Caps) (l : Ledger) (s : State) (z : Sized k s) (v : InRange k) (a : Agrees k l s) where
   -- a timer whose time has come is due again, on both sides at one time
   redue-agree : (i : ℕ) → i < k .timers → (at s INTERVAL i ≡ 0 → ⊥) → at s DUE i ≤ head s CLOCK →
-      Agrees k (withTime l (time (l .time .clock) (map (λ u. cond (eqb (u .id) (timerId s i)) (dueAgain (head s CLOCK) u) u) (l .time .timers)) (l .time .worn)))
+      Agrees k (withTime l (time (l .time .clock) (map (redue (head s CLOCK) (timerId s i)) (l .time .timers)) (l .time .worn)))
       (poke s DUE i (nextBeat (at s DUE i) (at s INTERVAL i) (head s CLOCK)))
   unfolding poke with-col
   redue-agree i m periodic come =
       timers-agree k l s (poke s DUE i next) _ (wrote-within TIMED (wrote-poke (wrote-none s) DUE i _) refl) a refl
       (pool-reads (a .time .pool)
-      (rw (a .time .pool .are) (map-map (λ u. cond (eqb (u .id) (timerId s i)) (dueAgain (head s CLOCK) u) u) (timerAt s) (a .time .pool .slots)
-      ∙ map-same-on (λ e. cond (eqb (timerId s e) (timerId s i)) (dueAgain (head s CLOCK) (timerAt s e)) (timerAt s e)) (timerAt (poke s DUE i next)) (a .time .pool .slots) same)))
+      (rw (a .time .pool .are) (map-map (redue (head s CLOCK) (timerId s i)) (timerAt s) (a .time .pool .slots)
+      ∙ map-same-on (λ e. redue (head s CLOCK) (timerId s i) (timerAt s e)) (timerAt (poke s DUE i next)) (a .time .pool .slots) same)))
     where
       -- the rule's next due time
       next : ℕ
       next = nextBeat (at s DUE i) (at s INTERVAL i) (head s CLOCK)
 
       -- each timer of the list: the one that is due again, and the others
-      same : (e : ℕ) → 0 < occurs e (a .time .pool .slots) →
-          cond (eqb (timerId s e) (timerId s i)) (dueAgain (head s CLOCK) (timerAt s e)) (timerAt s e) ≡ timerAt (poke s DUE i next) e
+      same : (e : ℕ) → 0 < occurs e (a .time .pool .slots) → redue (head s CLOCK) (timerId s i) (timerAt s e) ≡ timerAt (poke s DUE i next) e
       same e o =
           rw (slot-id-eqb TIMER-FACTOR (s TIMER-AGE) e i (omega (arith, v .fewTimers, clock-used k l s s z v a e o .1)) (omega (arith, v .fewTimers)))
           (each-set (λ e. cond (eqb e i) (dueAgain (head s CLOCK) (timerAt s e)) (timerAt s e) ≡ timerAt (poke s DUE i next) e) i e
@@ -107,7 +106,7 @@ module _ (k : Caps) (l : Ledger) (s : State) (z : Sized k s) (v : InRange k) (a 
   rearm-agrees i m come =
       split (eqb (at s INTERVAL i) 0) (λ q. rw q (disarm-agree k l s i z v a m))
       (λ q. rw q
-      (subst (λ (c : ℕ). Agrees k (withTime l (time (l .time .clock) (map (λ u. cond (eqb (u .id) (timerId s i)) (dueAgain c u) u) (l .time .timers)) (l .time .worn)))
+      (subst (λ (c : ℕ). Agrees k (withTime l (time (l .time .clock) (map (redue c (timerId s i)) (l .time .timers)) (l .time .worn)))
       (poke s DUE i (nextBeat (at s DUE i) (at s INTERVAL i) (head s CLOCK)))) (sym (a .time .clock)) (redue-agree i m (eqb-false (at s INTERVAL i) 0 q) come)))
 
   -- ---- the soonest

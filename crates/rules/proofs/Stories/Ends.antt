@@ -2,20 +2,20 @@
 use Prim.Native.Nat.{ℕ, _-_, _≤_, _<_}
 use native.Mathlib.Omega.{arith}
 use mathlib.Core.Path.{_≡_, refl, sym, ap, subst, _∙_}
-use mathlib.Core.Bool.{true, false, not, _||_}
+use mathlib.Core.Bool.{true, false, _||_}
 use mathlib.Core.List.{List}
 use lib.ListN.{length}
 use lib.Dec.{eqb, leb, ltb}
-use borrow.Author.Tests.{eqb-false, le-ltb, lt-leb, ltb-false, ne-eqb, not-true}
-use Rattle.ledger.specs.Call.{Answer, Call, Line, Op, number}
+use borrow.Author.Tests.{eqb-false, le-ltb, lt-leb, ltb-false, ne-eqb}
+use Rattle.ledger.specs.Call.{Answer, Line, Op, number}
 use Rattle.ledger.specs.Call.Answer.{ended}
-use Rattle.ledger.specs.Call.Call.{start, op}
+use Rattle.ledger.specs.Call.Call.{op}
 use Rattle.ledger.specs.Call.Op.{notify, exit}
 use Rattle.ledger.specs.Ended.{Unaimed}
 use Rattle.ledger.specs.Ledger.{Ledger}
 use Rattle.ledger.specs.Reckon.{departed, entered, reckon}
 use Rattle.ledger.specs.Room.{known}
-use Rattle.pools.proofs.BoolLaws.{and-left, and-right, split, true-false}
+use Rattle.pools.proofs.BoolLaws.{split, true-false}
 use Rattle.pools.proofs.SlotLaws.{live-id}
 use Rattle.tables.specs.declared.Caps.{Caps}
 use Rattle.tables.specs.Columns.{AGE, LINK-ONE, LINK-TWO, MAIL-OWNER, SEAT, STATE, TIMER-OWNER, WATCHED, WATCHER}
@@ -27,7 +27,7 @@ use Rattle.rules.specs.Rule.{Holds}
 use Rattle.rules.specs.Sound.{soundRule, viewOf}
 use Rattle.rules.specs.Calls.{depart, exitEntry, ruled}
 use Rattle.rules.specs.Run.{seven, step}
-use Rattle.rules.specs.Story.{Aims, Kept, Meets, Story, begins, capsFrom, line, startless}
+use Rattle.rules.specs.Story.{Aims, Kept, Meets, Story, line, startless}
 use Rattle.rules.specs.Agrees.{Agrees, arrivals, boxAt, handAt, letter, linkAt, monitorAt, readerAt, timerAt}
 use Rattle.rules.proofs.Lists.Columns.{of-alive}
 use Rattle.rules.proofs.Ends.Departs.{depart-agrees, depart-keeps, depart-leaves-nothing, exit-leaves-nothing}
@@ -35,8 +35,7 @@ use Rattle.rules.specs.Good.{Good}
 use Rattle.rules.proofs.Kept.Host.{good-view, host-keeps}
 use Rattle.rules.proofs.Reckoned.Ledger.{alive-slot, bond-ends, box-owner, clock-owner, eye-ends, id-not-zero, known-same, palm-owner, runner-alive, running-is, seat-owner, seat-used, some-map, some-no, stranger}
 use Rattle.rules.proofs.Stories.Over.{Over, over-once, over-stays}
-use Rattle.rules.proofs.Kept.Start.{start-refused}
-use Rattle.rules.proofs.Stories.Story.{line-kept, story-kept}
+use Rattle.rules.proofs.Stories.Story.{line-kept, story-kept, story-lasts}
 use Rattle.rules.proofs.Stories.Answers.{line-answer}
 use Rattle.rules.proofs.Table.{step-agrees, step-keeps}
 
@@ -102,19 +101,9 @@ over-line c l w p r w′ p′ id m h o =
     subst (λ (s : State). Over s id) (sym (e .0))
     (over-stays c (capsOf w) (viewOf w p) l id g (h .agrees) (step-keeps c (capsOf w) (viewOf w p) g) (step-agrees c (capsOf w) (viewOf w p) l g (h .agrees)) o)
 
--- after any line that does not begin anew
-over-next : (c : Call) (l : Ledger) (w p : List ℕ) (r : Answer) (w′ p′ : List ℕ) (id : ℕ) → begins (line c r) ≡ false → Meets c w p r w′ p′ → Kept l w p → Over (viewOf w p) id → Over (viewOf w′ p′) id
-over-next (start z) l w p r w′ p′ id b = λ m h o.
-    let e = start-refused (capsFrom z) w p r w′ p′ m (eqb-false (number r) 0 b) in rw (e .1, e .2) o
-over-next (op o) l w p r w′ p′ id b = over-line o l w p r w′ p′ id
-
 -- THE LAW: and so after a whole story in which nothing begins anew
 pub story-over : {w p w′ p′ : List ℕ} {xs : List Line} (l : Ledger) (id : ℕ) → Story w p xs w′ p′ → startless xs ≡ true → Kept l w p → Over (viewOf w p) id → Over (viewOf w′ p′) id
-story-over l id Story.over n x o = o
-story-over l id (Story.then {w} {p} {w₁} {p₁} {x = y} {xs} m s) n x o =
-    let b : begins y ≡ false = not-true (begins y) (and-left (not (begins y)) (startless xs) n) in
-    story-over (entered y l) id s (and-right (not (begins y)) (startless xs) n) (line-kept (y .call) l w p (y .answer) w₁ p₁ m x)
-    (over-next (y .call) l w p (y .answer) w₁ p₁ id b m x o)
+story-over l id = story-lasts (λ l s. Over s id) (λ o l w p r w′ p′. over-line o l w p r w′ p′ id) l
 
 -- ---- an exit
 -- the id of the actor that runs is that of a live one

@@ -4,20 +4,20 @@ use native.Mathlib.Nat.{mul-zero}
 use native.Mathlib.Omega.{arith}
 use mathlib.Core.Path.{_≡_, refl, sym, ap, subst, _∙_}
 use mathlib.Core.Logic.{_⊎_, ⊎-elim}
-use mathlib.Core.Bool.{Bool, true, false, not, _||_}
+use mathlib.Core.Bool.{Bool, true, false, _||_}
 use mathlib.Core.List.{List, [], _∷_}
 use lib.Dec.{eqb, ltb, lit<}
-use borrow.Author.Tests.{eqb-false, eqb-true, ltb-true, ne-eqb, not-false, not-true}
+use borrow.Author.Tests.{eqb-false, eqb-true, ltb-true, ne-eqb, not-false}
 use Rattle.ledger.specs.Beat.{OnBeat}
-use Rattle.ledger.specs.Call.{Answer, Call, Line, Op, code, idTold, number, refuses}
+use Rattle.ledger.specs.Call.{Answer, Line, Op, code, idTold, number, refuses}
 use Rattle.ledger.specs.Call.Answer.{made}
-use Rattle.ledger.specs.Call.Call.{start, op}
-use Rattle.ledger.specs.Call.Op.{after, every}
+use Rattle.ledger.specs.Call.Call.{op}
+use Rattle.ledger.specs.Call.Op.{every}
 use Rattle.ledger.specs.Ledger.{Ledger, Timer}
 use Rattle.ledger.specs.Lists.{some}
 use Rattle.ledger.specs.Reckon.{entered, reckon}
 use Rattle.pools.specs.Slot.{ageOf, slotOf}
-use Rattle.pools.proofs.BoolLaws.{and-left, and-right, split, true-false}
+use Rattle.pools.proofs.BoolLaws.{split, true-false}
 use Rattle.pools.proofs.SlotLaws.{age-of-id, slot-of-id}
 use Rattle.tables.specs.declared.Caps.{Caps}
 use Rattle.tables.specs.Columns.{CLOCK, TIMER-AGE, TIMER-OWNER}
@@ -31,13 +31,12 @@ use Rattle.rules.specs.Calls.Shape.{anId}
 use Rattle.rules.specs.Good.{Good}
 use Rattle.rules.specs.Run.{step}
 use Rattle.rules.specs.Sound.{viewOf}
-use Rattle.rules.specs.Story.{Kept, Meets, Story, begins, capsFrom, line, startless}
+use Rattle.rules.specs.Story.{Kept, Meets, Story, line, startless}
 use Rattle.rules.specs.Terms.{timerId}
 use Rattle.rules.proofs.Frames.Ages.{arm-raised}
 use Rattle.rules.proofs.Frames.Wrote.{All}
 use Rattle.rules.proofs.Guards.{guarded-all, third-passed, why-refuses}
 use Rattle.rules.proofs.Kept.Host.{good-view}
-use Rattle.rules.proofs.Kept.Start.{start-refused}
 use Rattle.rules.proofs.Lists.Each.{all-both, all-read, all-stands, all-then, none-all}
 use Rattle.rules.proofs.Reckoned.Beats.{Beating}
 use Rattle.rules.proofs.Reckoned.Ledger.{some-map, some-no}
@@ -46,7 +45,7 @@ use Rattle.rules.proofs.Reckoned.Ties.{clock-used}
 use Rattle.rules.proofs.Stories.Answers.{line-answer}
 use Rattle.rules.proofs.Stories.Ends.{line-state}
 use Rattle.rules.proofs.Stories.Over.{WasGiven, given-stays, next-given, next-new}
-use Rattle.rules.proofs.Stories.Story.{line-kept, story-kept}
+use Rattle.rules.proofs.Stories.Story.{line-kept, story-kept, story-lasts}
 use Rattle.rules.proofs.Table.{proved}
 
 -- ---- the id of a timer
@@ -64,62 +63,44 @@ arm-new delay interval bad k s g =
     let b : i < TIMER-FACTOR = omega (arith, m, g .range .fewTimers) in
     (next-new timerPool s i b, next-given timerPool s i b (armEntry delay interval bad .work k s .state) (arm-raised delay interval bad k s) (omega (arith, m, g .sized .words TIMER-AGE (lit< tt)))))
 
--- so after and every never give an id that was given before
-armed-another : (o : Op) (k : Caps) (s : State) (id : ℕ) → Good k s → WasGiven timerPool s id → number (step o k s .ans) ≡ 0 → Arms o → idTold (step o k s .ans) ≡ id → ⊥
-armed-another o k s id g given z arms e =
+-- so it is no id that was given before
+another : (delay interval : ℕ) (bad : Bool) (k : Caps) (s : State) (id : ℕ) → Good k s → WasGiven timerPool s id →
+    ruled (armEntry delay interval bad) k s .ans .no ≡ 0 → ruled (armEntry delay interval bad) k s .ans .id ≡ id → ⊥
+another delay interval bad k s id g given z e = omega (arith, given, rw e at (arm-new delay interval bad k s g z .0))
+
+-- whichever call arms it
+arms-another : (o : Op) (k : Caps) (s : State) (id : ℕ) → Good k s → WasGiven timerPool s id → number (step o k s .ans) ≡ 0 → idTold (step o k s .ans) ≡ id → Arms o → ⊥
+arms-another o k s id g given z e =
+    let Same : Op → Type 0 = λ c. (number (step c k s .ans) ≡ 0) × (idTold (step c k s .ans) ≡ id) in
     ⊎-elim
-    (λ x. let n = x .0 in
-    let f = arm-new n 0 (ltb LONGEST n) k s g (subst (λ (c : Op). number (step c k s .ans) ≡ 0) (x .1) z) .0 in
-    omega (arith, given, rw (subst (λ (c : Op). idTold (step c k s .ans) ≡ id) (x .1) e) at f))
-    (λ x. let n = x .0 in
-    let f = arm-new n n (eqb n 0 || ltb LONGEST n) k s g (subst (λ (c : Op). number (step c k s .ans) ≡ 0) (x .1) z) .0 in
-    omega (arith, given, rw (subst (λ (c : Op). idTold (step c k s .ans) ≡ id) (x .1) e) at f))
-    arms
+    (λ x. let (a, b) = subst Same (x .1) (z, e) in another (x .0) 0 (ltb LONGEST (x .0)) k s id g given a b)
+    (λ x. let (a, b) = subst Same (x .1) (z, e) in another (x .0) (x .0) (eqb (x .0) 0 || ltb LONGEST (x .0)) k s id g given a b)
 
 -- ---- a metronome on buffers
 -- its id was given, and every timer of that id is on its beat
-record Ticking (id first interval : ℕ) (l : Ledger) (s : State) : Type 0 where
+record Metronome (id first interval : ℕ) (l : Ledger) (s : State) : Type 0 where
   given : WasGiven timerPool s id
   beats : Beating id first interval (l .time)
 
 module _ (id first interval : ℕ) where
-  -- a call that is no start leaves it so
-  op-ticks : (o : Op) (l : Ledger) (w p : List ℕ) (r : Answer) (w′ p′ : List ℕ) → Meets (op o) w p r w′ p′ → Kept l w p → Ticking id first interval l (viewOf w p) →
-      Ticking id first interval (entered (line (op o) r) l) (viewOf w′ p′)
+  -- every call but start leaves it so
+  op-steady : (o : Op) (l : Ledger) (w p : List ℕ) (r : Answer) (w′ p′ : List ℕ) → Meets (op o) w p r w′ p′ → Kept l w p → Metronome id first interval l (viewOf w p) →
+      Metronome id first interval (entered (line (op o) r) l) (viewOf w′ p′)
   unfolding entered
-  op-ticks o l w p r w′ p′ m h t =
+  op-steady o l w p r w′ p′ m h t =
       let k = capsOf w in
       let s = viewOf w p in
       let e = line-answer o w p r w′ p′ m (h .sound) in
-      let another : number r ≡ 0 → Arms o → idTold r ≡ id → ⊥ = λ z a i.
-      armed-another o k s id (good-view w p (h .sound)) (t .given) (ap number (sym e) ∙ z) a (ap idTold (sym e) ∙ i) in
+      let others : number r ≡ 0 → Arms o → idTold r ≡ id → ⊥ = λ z a i.
+      arms-another o k s id (good-view w p (h .sound)) (t .given) (ap number (sym e) ∙ z) (ap idTold (sym e) ∙ i) a in
       record {
         given = subst (λ (u : State). WasGiven timerPool u id) (sym (line-state o w p r w′ p′ m (h .sound) .0)) (given-stays timerPool refl o k s id (t .given));
         beats = split (eqb (number r) 0)
-            (λ q. rw q (proved o .page .steady .0 id first interval (idTold r) l (another (eqb-true (number r) 0 q)) (t .beats)))
+            (λ q. rw q (proved o .page .steady .0 id first interval (idTold r) l (others (eqb-true (number r) 0 q)) (t .beats)))
             (λ q. rw q (split (eqb (number r) 5 || eqb (number r) 6)
             (λ y. rw y (proved o .page .steady .1 id first interval (number r) l (t .beats)))
             (λ y. rw y (t .beats))));
       }
-
-  -- nor does a start that was refused
-  line-ticks : (c : Call) (l : Ledger) (w p : List ℕ) (r : Answer) (w′ p′ : List ℕ) → begins (line c r) ≡ false → Meets c w p r w′ p′ → Kept l w p → Ticking id first interval l (viewOf w p) →
-      Ticking id first interval (entered (line c r) l) (viewOf w′ p′)
-  unfolding entered
-  line-ticks (start z) l w p r w′ p′ b = λ m h t.
-      let e = start-refused (capsFrom z) w p r w′ p′ m (eqb-false (number r) 0 b) in
-      rw (b, e .1, e .2) (split (eqb (number r) 5 || eqb (number r) 6) (λ y. rw y t) (λ y. rw y t))
-  line-ticks (op o) l w p r w′ p′ b = op-ticks o l w p r w′ p′
-
-  -- THE LAW: so it is after any story, until a new start
-  story-ticks : {w p w′ p′ : List ℕ} {xs : List Line} (l : Ledger) → Story w p xs w′ p′ → startless xs ≡ true → Kept l w p → Ticking id first interval l (viewOf w p) →
-      Ticking id first interval (reckon l xs) (viewOf w′ p′)
-  unfolding reckon
-  story-ticks l Story.over n h t = t
-  story-ticks l (Story.then {w} {p} {w₁} {p₁} {x = y} {xs} m s) n h t =
-      let b : begins y ≡ false = not-true (begins y) (and-left (not (begins y)) (startless xs) n) in
-      story-ticks (entered y l) s (and-right (not (begins y)) (startless xs) n) (line-kept (y .call) l w p (y .answer) w₁ p₁ m h)
-      (line-ticks (y .call) l w p (y .answer) w₁ p₁ b m h t)
 
   -- what the reckoning says of the timers of that id, the tables say
   tabled : (l : Ledger) (w p : List ℕ) → Kept l w p → Beating id first interval (l .time) →
@@ -146,10 +127,10 @@ none-has l w p id h new =
     ne-eqb (timerId s e) id (λ z. omega (arith, rw (sym z, slot-of-id TIMER-FACTOR (at s TIMER-AGE e) e b, age-of-id TIMER-FACTOR (at s TIMER-AGE e) e b) at new)))
 
 -- a periodic timer that was just armed is on its beat: it is due at its first time
-every-ticks : (interval id : ℕ) (l : Ledger) (w p w₁ p₁ : List ℕ) → Meets (op (every interval)) w p (made 0 id) w₁ p₁ → Kept l w p →
-    Ticking id (l .time .clock + interval) interval (entered (line (op (every interval)) (made 0 id)) l) (viewOf w₁ p₁)
+every-begins : (interval id : ℕ) (l : Ledger) (w p w₁ p₁ : List ℕ) → Meets (op (every interval)) w p (made 0 id) w₁ p₁ → Kept l w p →
+    Metronome id (l .time .clock + interval) interval (entered (line (op (every interval)) (made 0 id)) l) (viewOf w₁ p₁)
 unfolding entered
-every-ticks interval id l w p w₁ p₁ m h =
+every-begins interval id l w p w₁ p₁ m h =
     let s = viewOf w p in
     let e = line-answer (every interval) w p (made 0 id) w₁ p₁ m (h .sound) in
     let first = l .time .clock + interval in
@@ -171,4 +152,4 @@ stays-on-beat interval id l {w} {p} {w₁} {p₁} {w₂} {p₂} {xs} m h y n =
     let l₁ = entered (line (op (every interval)) (made 0 id)) l in
     let j : Kept l₁ w₁ p₁ = line-kept (op (every interval)) l w p (made 0 id) w₁ p₁ m h in
     let first = l .time .clock + interval in
-    tabled id first interval (reckon l₁ xs) w₂ p₂ (story-kept l₁ y j) (story-ticks id first interval l₁ y n j (every-ticks interval id l w p w₁ p₁ m h) .beats)
+    tabled id first interval (reckon l₁ xs) w₂ p₂ (story-kept l₁ y j) (story-lasts (Metronome id first interval) (op-steady id first interval) l₁ y n j (every-begins interval id l w p w₁ p₁ m h) .beats)
