@@ -8,7 +8,6 @@ use lib.Dec.{eqb}
 use borrow.Author.Tests.{eqb-true}
 use Rattle.ledger.specs.Lists.{first, some, those}
 use Rattle.pools.specs.Pool.{occurs}
-use Rattle.pools.proofs.ListLaws.{occurs-head, occurs-tail}
 use Rattle.pools.proofs.BoolLaws.{and-left, and-right, neither, split, true-false}
 use Rattle.rules.specs.Agrees.{upTo}
 use Rattle.rules.proofs.Frames.Wrote.{All, mem, within}
@@ -25,13 +24,7 @@ module _ (P : ℕ → Type 0) where
   all-within [] cs e h = tt
   all-within (d ∷ ds) cs e h = (all-one cs h d (and-left (mem d cs) (within ds cs) e), all-within ds cs (and-right (mem d cs) (within ds cs) e) h)
 
-  -- ---- of each number that stands in a list
-  -- where it is so of whatever stands there
-  pub all-standing : (es : List ℕ) → ((e : ℕ) → 0 < occurs e es → P e) → All P es
-  all-standing [] h = tt
-  all-standing (x ∷ es) h = (h x (occurs-head x es), all-standing es (λ e o. h e (occurs-tail e x es o)))
-
-  -- and back
+  -- of a number that stands among them
   pub all-stands : (es : List ℕ) → All P es → (e : ℕ) → 0 < occurs e es → P e
   unfolding occurs
   all-stands [] h e o = absurd (omega arith)

@@ -17,11 +17,11 @@ use Rattle.ledger.specs.Lists.{first, some}
 use Rattle.ledger.specs.Reckon.{aired, busMade, cleared, departed, emptyHanded, endLinks, endMonitors, endReaders, endTimers, entered, evicted, fires, firing, firings}
 use Rattle.ledger.specs.Reckon.{gone, issued, joined, later, linked, moved, page, pickedUp, reading, rearmed, reckon, sent, soonest, tick}
 use Rattle.ledger.specs.Room.{busFull, isReader, oldestUnread, unread}
-use Rattle.pools.proofs.BoolLaws.{and-left, and-right, neither, split, true-false}
+use Rattle.pools.proofs.BoolLaws.{and-left, and-right, split, true-false}
 use Rattle.rules.specs.Agrees.{Ascending}
 use Rattle.rules.specs.Story.{begins, line, startless}
 use Rattle.rules.proofs.Frames.Wrote.{All}
-use Rattle.rules.proofs.Lists.Each.{all-any, all-both, all-first, all-map, all-read, all-some, all-then, all-those, all-passing}
+use Rattle.rules.proofs.Lists.Each.{all-any, all-both, all-first, all-map, all-read, all-some, all-then, all-those, all-passing, none-all}
 
 -- ---- THE MARK
 -- if the subscription is that of `id` to bus b, its cursor is n or further on
@@ -134,10 +134,8 @@ module _ (n b id : ℕ) where
 -- ---- where a mark is set
 -- where there is no subscription of that one to that bus, its cursor is anywhere
 unread-anywhere : (n b id : ℕ) (xs : List Reader) → some (isReader b id) xs ≡ false → All (Further n b id) xs
-unfolding some
-unread-anywhere n b id [] e = tt
-unread-anywhere n b id (x ∷ xs) e =
-    let (y, z) = neither (isReader b id x) (some (isReader b id) xs) e in (λ q. true-false (isReader b id x) q y, unread-anywhere n b id xs z)
+unread-anywhere n b id xs e =
+    all-then (λ x. isReader b id x ≡ false) (Further n b id) xs (λ x y q. true-false (isReader b id x) q y) (none-all (isReader b id) xs e)
 
 -- a new subscriber's cursor is past all that was ever published
 pub joined-beyond : (b id : ℕ) (l : Ledger) → some (isReader b id) (l .buses .readers) ≡ false → Beyond (l .buses .published) b id (joined b id l .buses)
