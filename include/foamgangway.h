@@ -57,7 +57,8 @@ enum fg_number {
 #define FG_MAX_TAG 134217726                  /* largest tag of a message */
 #define FG_MAX_CLOCK (UINT64_C(1) << 62)      /* microseconds */
 #define FG_MAX_STEP UINT64_C(4294967295)      /* microseconds: delays, intervals, advances */
-#define FG_MAX_WAIT INT64_C(2147483647)       /* milliseconds */
+#define FG_MIN_INTERVAL 100                   /* microseconds: intervals */
+#define FG_MAX_WAIT INT64_C(86400000)         /* milliseconds, a day: waits, but for FG_WAIT_FOREVER */
 
 /* Buses, which are numbered from 0; what one can have, from 1 each; when what was published on it ends, from 0. */
 #define FG_MAX_BUSES 32
@@ -156,7 +157,8 @@ uint64_t fg_yield(FG_BUFFERS);
 uint64_t fg_notify(FG_BUFFERS, uint64_t target, uint64_t tag, const uint8_t *payload, size_t payload_len);
 
 /* Releases the caller's hand, then takes the oldest message that the filter matches into it; without one the
- * caller waits: -1 for ever, 0 not at all, else so many milliseconds. Woken, it calls fg_receive again. */
+ * caller waits: -1 for ever, 0 not at all, else so many milliseconds. More than FG_MAX_WAIT is FG_MALFORMED: whoever passes
+ * microseconds by mistake is told so, and does not wait for weeks. Woken, it calls fg_receive again. */
 struct fg_received fg_receive(FG_BUFFERS, uint64_t sender, uint64_t class_, uint64_t tag, int64_t wait);
 
 /* Where in the payload area the payload in hand lies; FG_UNKNOWN with nothing in hand. */
@@ -165,8 +167,9 @@ struct fg_place fg_shown(FG_BUFFERS);
 /* Arms a timer that ticks once, after so many microseconds, and answers its id. */
 struct fg_made fg_after(FG_BUFFERS, uint64_t delay);
 
-/* Arms a timer that ticks every so many microseconds, from 1, and answers its id. It keeps its beat: however late fg_advance is
- * called, it is due whole intervals after it was armed. Beats that were missed meanwhile give one tick. */
+/* Arms a timer that ticks every so many microseconds and answers its id. Less than FG_MIN_INTERVAL is FG_MALFORMED: whoever
+ * passes milliseconds by mistake is told so. It keeps its beat: however late fg_advance is called, it is due whole intervals
+ * after it was armed. Beats that were missed meanwhile give one tick. */
 struct fg_made fg_every(FG_BUFFERS, uint64_t interval);
 
 /* Ends a timer of the caller; ticks already queued stay. */

@@ -17,6 +17,7 @@ use tables::columns::TIMER_AGE;
 use tables::columns::TIMER_OWNER;
 use tables::free::is_live;
 use tables::limits::LONGEST;
+use tables::limits::SHORTEST_INTERVAL;
 use tables::limits::TIMER_FACTOR;
 use tables::words::get;
 
@@ -53,7 +54,7 @@ pub fn after_in(t: &mut [u64], p: &[u8], k: Caps, delay: u64) -> Made
     arm_in(t, p, k, delay, 0, LONGEST < delay)
 }
 
-// A timer that fires again and again.
+// A timer that fires again and again, though not too fast.
 pub fn every_in(t: &mut [u64], p: &[u8], k: Caps, interval: u64) -> Made
     requires { ⌜ Ready k (now t) (now p) ⌝ }
     ensures { λ r. ⌜ Gives (ruled (everyEntry interval)) k (now (t .entry)) (now (p .entry)) r (now (t .exit)) (now (p .entry)) ⌝ }
@@ -64,7 +65,7 @@ pub fn every_in(t: &mut [u64], p: &[u8], k: Caps, interval: u64) -> Made
         k,
         interval,
         interval,
-        (interval == 0) | (LONGEST < interval),
+        (interval < SHORTEST_INTERVAL) | (LONGEST < interval),
     )
 }
 

@@ -59,6 +59,7 @@ use tables::limits::MOST_SEATS;
 use tables::limits::MOST_VALUES;
 use tables::limits::OLDEST;
 use tables::limits::PAYLOAD_MOST;
+use tables::limits::SHORTEST_INTERVAL;
 use tables::sizes::SPARES;
 
 // The last spare word of the head.
@@ -274,7 +275,14 @@ pub fn timers(m: u64) -> u64 {
     n = word(n, b"timer: age 0 in use", TIMER_AGE, 0, 0);
     n = word(n, b"timer: age", TIMER_AGE, 0, TOO_OLD);
     n = word(n, b"timer: due too late", DUE, 0, DUE_END + 1);
-    n = word(n, b"timer: interval", INTERVAL, 0, LONGEST + 1);
+    n = word(n, b"timer: interval too long", INTERVAL, 0, LONGEST + 1);
+    n = word(
+        n,
+        b"timer: interval too short",
+        INTERVAL,
+        0,
+        SHORTEST_INTERVAL - 1,
+    );
     n = word(n, b"free timer with a due time", DUE, 1, 1);
     n = word(n, b"free timer with an interval", INTERVAL, 1, 1);
     n

@@ -10,6 +10,7 @@ use tables::columns::ACTORS;
 use tables::columns::CLOCK;
 use tables::columns::DATA_FREE;
 use tables::columns::DATAS;
+use tables::columns::INTERVAL;
 use tables::columns::LINKS;
 use tables::columns::MAIL_FREE;
 use tables::columns::MAILS;
@@ -23,6 +24,7 @@ use tables::limits::MOST_LINKS;
 use tables::limits::MOST_MAILS;
 use tables::limits::MOST_MONITORS;
 use tables::limits::MOST_TIMERS;
+use tables::limits::SHORTEST_INTERVAL;
 
 mod breaks;
 mod checks;
@@ -169,6 +171,15 @@ fn small() {
     state(&t, &p, b"small");
 }
 
+// The same with another interval of its timer: sound too.
+fn other_interval(name: &[u8], x: u64) {
+    let mut t = [0u64; 1536];
+    let mut p = [0u8; 2048];
+    scene::bring(&mut t, &mut p);
+    set(&mut t, word_at(INTERVAL, 0), x);
+    state(&t, &p, name);
+}
+
 // A break for each rule.
 fn broken(m: u64) -> u64 {
     let mut n = checks::head(m);
@@ -198,6 +209,8 @@ fn main() {
     enough();
     n = short_area(short_table(n));
     small();
+    other_interval(b"small, with the shortest interval,", SHORTEST_INTERVAL);
+    other_interval(b"small, with a timer that ticks once,", 0);
     n = broken(n);
     io::print_decimal(1, n);
     io::write_all(1, b" refused\n");

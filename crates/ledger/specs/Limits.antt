@@ -29,13 +29,17 @@ LAST-REASON = 65535
 abbrev pub CLOCK-END : ℕ
 CLOCK-END = 2 ^ 62
 
--- "a delay of 0 to 2^32 - 1 µs", "an interval of 1 to 2^32 - 1", "Advance adds 0 to 2^32 - 1"
+-- "a delay of 0 to 2^32 - 1 µs", "an interval of .. to 2^32 - 1", "Advance adds 0 to 2^32 - 1"
 abbrev pub LONGEST : ℕ
 LONGEST = 2 ^ 32 - 1
 
--- "a positive [wait], at most 2^31 - 1"
+-- "periodic intervals below 100 µs become malformed"
+abbrev pub SHORTEST-INTERVAL : ℕ
+SHORTEST-INTERVAL = 100
+
+-- "Positive waits above 86,400,000 .. become malformed"
 abbrev pub LONGEST-WAIT : ℕ
-LONGEST-WAIT = 2 ^ 31 - 1
+LONGEST-WAIT = 86400000
 
 -- ---- buses: "up to 32 buses .., each with 1 to 16 entries and 1 to 32 subscribers"; "a number of reads (to 32) or an age (to 2^31 - 1 ms)"
 abbrev pub MOST-BUSES : ℕ

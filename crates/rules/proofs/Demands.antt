@@ -20,8 +20,8 @@ use Rattle.ledger.specs.Lists.{butFirst, some, those}
 use Rattle.ledger.specs.Reckon.{entered, firedTimers, firings, later, leaf, notices, oneMore, page, readOut, reckon, short, refusalDue, stale}
 use Rattle.ledger.specs.Room.{busFull, heard, inHand, known, oldestUnread}
 use Rattle.pools.specs.Pool.{occurs}
-use Rattle.tables.specs.Columns.{CLOCK, DUE, TIMER-OWNER}
-use Rattle.tables.specs.Limits.{CLOCK-END, DUE-END, LONGEST}
+use Rattle.tables.specs.Columns.{CLOCK, DEADLINE, DUE, INTERVAL, TIMER-OWNER}
+use Rattle.tables.specs.Limits.{CLOCK-END, DUE-END, LONGEST, LONGEST-WAIT, SHORTEST-INTERVAL}
 use Rattle.tables.specs.State.{PastSame, at, capsOf, head, needed, neededP}
 use Rattle.rules.specs.declared.Shown.{Shown}
 use Rattle.rules.specs.Rule.{Holds}
@@ -35,7 +35,7 @@ use Rattle.rules.specs.Trim.{NeededSame}
 use Rattle.rules.proofs.Reckoned.Beats.{beat-ends, smallest}
 use Rattle.rules.proofs.Reckoned.Counts.{advance-once, line-notices, line-ticks}
 use Rattle.rules.proofs.Stories.Host.{meets-broken, meets-once}
-use Rattle.rules.proofs.Kept.Clauses.{due-fits}
+use Rattle.rules.proofs.Kept.Clauses.{due-fits, interval-right}
 use Rattle.rules.proofs.Kept.Host.{good-view}
 use Rattle.rules.proofs.Frames.Past.{line-past}
 use Rattle.rules.proofs.Stories.Showing.{show-is-shown}
@@ -45,6 +45,7 @@ use Rattle.rules.proofs.Stories.Answers.{line-counts, line-in-hand, lin
 use Rattle.rules.proofs.Stories.Buses.{ages-end, bus-numbered, full-has-room, line-read, nothing-before, publish-ends-oldest, ranks-known, read-out-ends, reads-on, spawned-unsubscribed}
 use Rattle.rules.proofs.Stories.Ends.{ended-stays-ended, strange-line}
 use Rattle.rules.proofs.Stories.Metronome.{stays-on-beat}
+use Rattle.rules.proofs.Stories.Waits.{story-daily}
 use Rattle.rules.proofs.Frames.Unread.{fresh-alike, line-unread}
 
 -- ---- DEMAND 1, of every call on any two buffers
@@ -164,6 +165,16 @@ module _ (z : Sizes) {w p w₁ p₁ w₂ p₂ : List ℕ} {xs : List Line} (bega
       let s = viewOf w₄ p₄ in (i : ℕ) → (at s TIMER-OWNER i ≡ 0 → ⊥) → timerId s i ≡ id → OnBeat (there .time .clock + interval) interval (head s CLOCK) (timerAt s i)
   never-drifts interval id m = stays-on-beat interval id there m demand-three
 
+  -- ---- NO ENDLESS WAITS, of request C-16
+  -- whoever waits, but for ever, waits 86,400,000 milliseconds, a day, at most: no deadline is later than that, in microseconds; 0 is none
+  pub waits-end : (a : ℕ) → at (viewOf w₂ p₂) DEADLINE a ≤ head (viewOf w₂ p₂) CLOCK + 1000 * LONGEST-WAIT
+  waits-end = story-daily z began story
+
+  -- no two beats of a metronome are nearer than 100 µs; 0 is no metronome's interval
+  pub beats-apart : (i : ℕ) → (at (viewOf w₂ p₂) INTERVAL i ≡ 0 → ⊥) → SHORTEST-INTERVAL ≤ at (viewOf w₂ p₂) INTERVAL i
+  beats-apart i = interval-right (good-view w₂ p₂ (demand-three .sound)) i .1
+
+  -- ---- ENDS
   -- after an exit, until a new start: the actor that ended is nobody, owns nothing, and nothing is aimed at it
   pub after-exit : (reason sent lost : ℕ) {w₃ p₃ w₄ p₄ : List ℕ} {ys : List Line} → Meets (op (exit reason)) w₂ p₂ (ended 0 sent lost) w₃ p₃ → Story w₃ p₃ ys w₄ p₄ → startless ys ≡ true →
       Unaimed (there .people .running) (reckon (entered (line (op (exit reason)) (ended 0 sent lost)) there) ys) × (isActor (viewOf w₄ p₄) (there .people .running) ≡ false)

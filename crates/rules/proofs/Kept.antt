@@ -18,3 +18,4 @@ pub mod Sound
 pub mod Start
 pub mod Ties
 pub mod Values
+pub mod Waits

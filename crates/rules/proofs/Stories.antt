@@ -15,3 +15,4 @@ pub mod Plays
 pub mod Showing
 pub mod SlotLife
 pub mod Story
+pub mod Waits

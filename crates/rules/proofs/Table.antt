@@ -33,10 +33,10 @@ use Rattle.rules.specs.Run.{numbers, said, say, step}
 use Rattle.rules.proofs.Reckoned.Beats.{advance-beats, armed-beats, ended-beats}
 use Rattle.rules.proofs.Reckoned.Clock.{advance-agrees, advance-counts, advance-keeps, advance-same}
 use Rattle.rules.proofs.Frames.Pools.{use-ends}
-use Rattle.rules.proofs.Frames.Ages.{after-framed, every-framed, framed, monitor-framed, spawn-framed}
+use Rattle.rules.proofs.Frames.Ages.{after-framed, every-framed, framed, framed-with, monitor-framed, spawn-framed}
 use Rattle.rules.proofs.Frames.Buses.{AIRED, beside-broadcast, beside-readOff, wrote-makeBus, wrote-sitDown, wrote-standUp}
 use Rattle.rules.proofs.Frames.Calls.{beside-advance, beside-link, beside-next, beside-receive}
-use Rattle.rules.proofs.Claims.{AGES, Agreed, Counted, Framed, Grown, Keeps, Silent, Speaks, Tested}
+use Rattle.rules.proofs.Claims.{AGES, Agreed, Counted, Daily, Framed, Grown, Keeps, Silent, Speaks, Tested}
 use Rattle.rules.proofs.Ends.Departs.{beside-depart, exit-agrees, exit-counts, exit-keeps, exit-same}
 use Rattle.rules.proofs.Reckoned.Firing.{some-then}
 use Rattle.rules.proofs.Lists.Each.{all-one}
@@ -51,6 +51,7 @@ use Rattle.rules.proofs.Reckoned.Buses.{bus-agrees, bus-same, publish-a
 use Rattle.rules.proofs.Reckoned.Messages.{notify-agrees, notify-same, receive-agrees, receive-same}
 use Rattle.rules.proofs.Reckoned.Pages.{Paged, fires-does, more-some, quietly, reading-else, silently, steadily, within-all, within-but, within-end, Within}
 use Rattle.rules.proofs.Kept.Running.{next-keeps, spawn-keeps, yield-keeps}
+use Rattle.rules.proofs.Kept.Waits.{advance-waits, exit-waits, notify-waits, receive-waits}
 use Rattle.rules.proofs.Reckoned.Running.{next-agrees, next-same, report-counts, shown-same, spawn-agrees, spawn-same, yield-agrees, yield-same}
 use Rattle.rules.proofs.Reckoned.Tests.{same-first}
 use Rattle.rules.proofs.Ends.Laws.{laws}
@@ -154,7 +155,7 @@ proved yield =
 proved (notify to tag payload) =
     row (notify to tag payload) (λ k s. (refl, refl)) (λ k s l g a p. refl) (inl (λ m. refl))
     (notify-keeps to tag payload) (notify-agrees to tag payload) (notify-same to tag payload)
-    (framed (notify to tag payload) (λ k s. beside-of (wrote-post k s _ _ _ payload)) refl) (record {
+    (framed-with (notify to tag payload) (λ k s. beside-of (wrote-post k s _ _ _ payload)) (notify-waits to tag payload) refl) (record {
       order = λ r l. within-all (l .mail .boxes ++ (message to (l .people .running) (Says.wrote tag payload) ∷ []));
       boxes = λ n l. refl;
       knows = λ id r l d e. e;
@@ -165,7 +166,7 @@ proved (receive sender class tag wait) =
     row (receive sender class tag wait) (λ k s. (refl, receive-works sender class tag wait (runner s - 1) (letGo s (runner s - 1)))) (λ k s l g a p. refl)
     (inl (λ m. refl))
     (receive-keeps sender class tag wait) (receive-agrees sender class tag wait) (receive-same sender class tag wait)
-    (framed (receive sender class tag wait) (beside-receive sender class tag wait) refl) (record {
+    (framed-with (receive sender class tag wait) (beside-receive sender class tag wait) (receive-waits sender class tag wait) refl) (record {
       order = λ r l. within-end (within-but (wanted (l .people .running) sender class tag) (l .mail .boxes));
       boxes = λ n l. split (eqb n 5) (λ q. rw q) (λ q. rw q);
       knows = λ id r l d e. e;
@@ -205,7 +206,7 @@ proved (demonitor id) =
     (framed (demonitor id) (λ k s. beside-of (use-ends monitorPool s _ .wrote)) refl) (quietly (demonitor id) (λ r l. (refl, refl, refl, refl, refl)))
 proved (exit reason) =
     row (exit reason) (λ k s. (refl, refl)) (exit-counts reason) (inl (λ m. refl)) (exit-keeps reason) (exit-agrees reason) (exit-same reason)
-    (framed (exit reason) (λ k s. beside-depart k (runner s - 1) reason s) refl) (record {
+    (framed-with (exit reason) (λ k s. beside-depart k (runner s - 1) reason s) (exit-waits reason) refl) (record {
       order = λ r l. passed-order laws (l .people .running) reason l;
       boxes = λ n l. refl;
       knows = λ id r l d e.
@@ -219,7 +220,7 @@ proved (exit reason) =
     })
 proved (advance micros) =
     row (advance micros) (λ k s. (refl, refl)) (advance-counts micros) (inl (λ m. refl)) (advance-keeps micros) (advance-agrees micros) (advance-same micros)
-    (framed (advance micros) (beside-advance micros) refl) (record {
+    (framed-with (advance micros) (beside-advance micros) (advance-waits micros) refl) (record {
       order = λ r l. subst (λ (m : List Message). Within m (l .mail .boxes ++ ticks (firings (later micros l)) (later micros l)))
           (sym (fires-does (firings (later micros l)) (later micros l) .0)) (within-all (l .mail .boxes ++ ticks (firings (later micros l)) (later micros l)));
       boxes = λ n l. refl;
@@ -292,6 +293,10 @@ module _ (o : Op) where
   -- it lowers no age, of whatever pool
   pub ages-grow : (c : ℕ) → mem c AGES ≡ true → (k : Caps) (s : State) → Grown s (step o k s .state) c
   ages-grow c m k s = step-all k s (λ x. Grown s (x .state) c) (λ y i. omega arith) (λ p. all-one (Grown s (entry o .work k s .state)) AGES (proved o .leaves .ages k s) c m)
+
+  -- it lets nobody wait longer than a day
+  pub step-waits : (k : Caps) (s : State) → Daily s → Daily (step o k s .state)
+  step-waits k s h = step-all k s (λ x. Daily (x .state)) (λ y. h) (λ p. proved o .leaves .waits k s p h)
 
   -- it leaves alone all but the columns that it writes
   pub step-frame : (k : Caps) (s : State) → Beside (proved o .leaves .writes) s (step o k s .state)

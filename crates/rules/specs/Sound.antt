@@ -12,7 +12,7 @@ use Rattle.records.specs.Header.{classOf, markOf, tagOf}
 use Rattle.tables.specs.declared.Caps.{Caps}
 use Rattle.tables.specs.Columns.{ACTORS, AGE, ARRIVAL, ARRIVED, BUS-AGE, BUS-READS, BUS-SEATS, BUS-SIZE, BUSES, CLOCK, DATA-FREE, DATAS, DEADLINE, DUE, HAND, INTERVAL, ISSUE, ISSUED, LENGTH, LINK-ONE, LINK-TWO, LINKS, MAIL-DATA, MAIL-FREE, MAIL-OWNER, MAILS, MONITORS, PAYLOAD, PRIORITY, PUBLISHED, QUEUE, QUEUED, READERS, REASON, REST, SENDER, SPARE, STATE, TIMER-OWNER, TIMERS, VALUE-BUS, WANT-CLASS, WANT-SENDER, WANT-TAG, WATCHED, WATCHER}
 use Rattle.tables.specs.Sizes.{COLUMN-BITS, SPARES}
-use Rattle.tables.specs.Limits.{ACTOR-FACTOR, ANY-CLASS, ANY-SENDER, ANY-TAG, CLOCK-END, DEADLINE-END, DUE-END, ENTRY-BYTES, HEADER-BYTES, LAST-LEVEL, LONGEST, LONGEST-AGE, MOST-ACTORS, MOST-BUSES, MOST-DATAS, MOST-LINKS, MOST-MAILS, MOST-MONITORS, MOST-READS, MOST-SEATS, MOST-TIMERS, MOST-VALUES, OLDEST, PAYLOAD-MOST}
+use Rattle.tables.specs.Limits.{ACTOR-FACTOR, ANY-CLASS, ANY-SENDER, ANY-TAG, CLOCK-END, DEADLINE-END, DUE-END, ENTRY-BYTES, HEADER-BYTES, LAST-LEVEL, LONGEST, LONGEST-AGE, MOST-ACTORS, MOST-BUSES, MOST-DATAS, MOST-LINKS, MOST-MAILS, MOST-MONITORS, MOST-READS, MOST-SEATS, MOST-TIMERS, MOST-VALUES, OLDEST, PAYLOAD-MOST, SHORTEST-INTERVAL}
 use Rattle.tables.specs.State.{State, at, head, view, capsOf, size, neededP, Room}
 use Rattle.rules.specs.Rule.{Rule, is, le, lt, eq, differ, both, imp, each, Holds}
 use Rattle.rules.specs.Aged.{Aged, monitorPool, timerPool}
@@ -257,9 +257,13 @@ watchesRule s i = endsRule (s STATE) (at s WATCHER i) (at s WATCHED i)
 abbrev pub monitorRule : State → ℕ → Rule
 monitorRule = agedRule monitorPool watchesRule
 
--- "timers have live owners; due times at most 2^62 + 2^32"; "intervals .. in range" (0 is a one-shot's)
+-- "intervals .. in range": 0 is a one-shot's; a periodic one has at least 100 (request C-16)
+abbrev pub intervalRule : ℕ → Rule
+intervalRule interval = both (le interval LONGEST) (imp (differ interval 0) (le SHORTEST-INTERVAL interval))
+
+-- "timers have live owners; due times at most 2^62 + 2^32"
 abbrev pub armedRule : State → ℕ → Rule
-armedRule s i = both (is (alive (s STATE) (at s TIMER-OWNER i - 1))) (both (le (at s DUE i) DUE-END) (le (at s INTERVAL i) LONGEST))
+armedRule s i = both (is (alive (s STATE) (at s TIMER-OWNER i - 1))) (both (le (at s DUE i) DUE-END) (intervalRule (at s INTERVAL i)))
 
 abbrev pub timerRule : State → ℕ → Rule
 timerRule = agedRule timerPool armedRule

@@ -73,7 +73,7 @@ and-true′ : (x : Bool) → x && true ≡ x
 and-true′ true = refl
 and-true′ false = refl
 
-twice : (b : Bool) → not (not b) ≡ b
+pub twice : (b : Bool) → not (not b) ≡ b
 twice true = refl
 twice false = refl
 

@@ -11,7 +11,7 @@ use lib.Dec.{eqb, leb}
 use borrow.Author.Tests.{eqb-true, eqb-false, eq-eqb, ne-eqb, le-leb, leb-true}
 use Rattle.pools.proofs.BoolLaws.{split, true-false, and-left, and-right}
 use Rattle.rules.specs.Rule.{test, each, both, is, le, eq}
-use Rattle.rules.specs.Sound.{linkRule, pairRule, monitorRule, timerRule}
+use Rattle.rules.specs.Sound.{intervalRule, linkRule, pairRule, monitorRule, timerRule}
 use Rattle.rules.specs.Terms.{alive}
 use Rattle.rules.proofs.Kept.Rules.{reads, all-none, all-more, all-same, and-same}
 use Rattle.sound.specs.Pairs.{Marked}
@@ -22,7 +22,7 @@ use Rattle.sound.proofs.PairLaws.{marked-first, marked-none, rule-none,
 use Rattle.sound.proofs.JoinLaws.{or-test, pick-no, pick-yes}
 use Rattle.sound.proofs.StandingLaws.{lives-in}
 use Rattle.tables.specs.Columns.{DUE, INTERVAL, LINK-ONE, LINK-TWO, MONITOR-AGE, STATE, TIMER-AGE, TIMER-OWNER, WATCHED, WATCHER}
-use Rattle.tables.specs.Limits.{DUE-END, LONGEST, OLDEST}
+use Rattle.tables.specs.Limits.{DUE-END, OLDEST}
 use Rattle.tables.specs.State.{State, at}
 
 -- ---- a link
@@ -120,9 +120,9 @@ module _ (row : List ℕ) (owner age due interval : ℕ) where
       (λ h. ((h .1, λ n. absurd (n z)), (λ q. h .0, λ n. absurd (n z))))
 
   pub timer-used : (owner ≡ 0 → ⊥) →
-      test (both (both (is (livesIn row owner)) (both (le 1 age) (le age OLDEST))) (both (le due DUE-END) (le interval LONGEST))) ≡ test (timerIn row owner age due interval)
+      test (both (both (is (livesIn row owner)) (both (le 1 age) (le age OLDEST))) (both (le due DUE-END) (intervalRule interval))) ≡ test (timerIn row owner age due interval)
   timer-used n =
-      same-rule (timerIn row owner age due interval) (both (both (is (livesIn row owner)) (both (le 1 age) (le age OLDEST))) (both (le due DUE-END) (le interval LONGEST)))
+      same-rule (timerIn row owner age due interval) (both (both (is (livesIn row owner)) (both (le 1 age) (le age OLDEST))) (both (le due DUE-END) (intervalRule interval)))
       (λ ((age, born), (_, used)). ((used n .0, (born n, age)), used n .1))
       (λ ((lives, (born, age)), times). ((age, λ q. born), (λ z. absurd (n z), λ q. (lives, times))))
 

@@ -4,9 +4,9 @@ use mathlib.Core.Path.{_≡_}
 use mathlib.Core.Bool.{Bool, true, false, not}
 use mathlib.Core.List.{List}
 use lib.ListN.{getD}
-use Rattle.tables.specs.Limits.{DUE-END, LONGEST}
+use Rattle.tables.specs.Limits.{DUE-END}
 use Rattle.rules.specs.Rule.{Rule, is, le, eq, differ, both, imp, each, test}
-use Rattle.rules.specs.Sound.{ageRule}
+use Rattle.rules.specs.Sound.{ageRule, intervalRule}
 use Rattle.rules.specs.Terms.{joins}
 use Rattle.sound.specs.Pairs.{PairSeen}
 use Rattle.sound.specs.Standing.{livesIn}
@@ -30,7 +30,7 @@ abbrev pub timerIn : List ℕ → ℕ → ℕ → ℕ → ℕ → Rule
 timerIn row owner age due interval =
     both (ageRule owner age)
     (both (imp (eq owner 0) (both (eq due 0) (eq interval 0)))
-    (imp (differ owner 0) (both (is (livesIn row owner)) (both (le due DUE-END) (le interval LONGEST)))))
+    (imp (differ owner 0) (both (is (livesIn row owner)) (both (le due DUE-END) (intervalRule interval)))))
 
 -- the row has its live actors in slots of the square
 pub record Inside (row : List ℕ) : Type 0 where

@@ -4,7 +4,7 @@ ghost use Prim.Native.Nat.{_+_, _*_, _<_, _≤_};
 ghost use lib.ListN.{length, getD};
 ghost use Rattle.pools.specs.Bits.{free, released};
 ghost use Rattle.rules.specs.Rule.{test, both, each};
-ghost use Rattle.rules.specs.Sound.{linkRule, monitorRule, pairRule, timerRule};
+ghost use Rattle.rules.specs.Sound.{intervalRule, linkRule, monitorRule, pairRule, timerRule};
 ghost use Rattle.rules.specs.Host.{Tests};
 ghost use Rattle.sound.specs.Pairs.{PairSeen};
 ghost use Rattle.sound.specs.Standing.{Standing};
@@ -28,6 +28,7 @@ use tables::columns::WATCHER;
 use tables::limits::DUE_END;
 use tables::limits::LONGEST;
 use tables::limits::OLDEST;
+use tables::limits::SHORTEST_INTERVAL;
 use tables::words::column;
 
 // Two words name two different live actors.
@@ -144,6 +145,13 @@ pub fn monitors(t: &[u64], p: &[u8], k: Caps, row: &[u8; PLACES]) -> bool
 }
 
 // ---- timers
+// An interval: 0, which is a one-shot's, or one in range.
+fn interval_ok(interval: u64) -> bool
+    ensures { λ r. ⌜ r ≡ test (intervalRule interval) ⌝ }
+{
+    (interval <= LONGEST) & ((interval == 0) | (SHORTEST_INTERVAL <= interval))
+}
+
 fn timer_ok(row: &[u8; PLACES], owner: u64, age: u64, due: u64, interval: u64) -> bool
     ensures { λ r. ⌜ r ≡ test (timerIn (now (row .entry)) owner age due interval) ⌝ }
 {
@@ -151,7 +159,7 @@ fn timer_ok(row: &[u8; PLACES], owner: u64, age: u64, due: u64, interval: u64) -
         return ((due | interval) == 0) & (age <= OLDEST);
     }
     (lives(row, owner) & ((1 <= age) & (age <= OLDEST)))
-        & ((due <= DUE_END) & (interval <= LONGEST))
+        & ((due <= DUE_END) & interval_ok(interval))
 }
 
 // The first n of them.

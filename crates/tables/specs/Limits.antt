@@ -82,13 +82,17 @@ LEVELS = LAST-LEVEL + 1
 abbrev pub CLOCK-END : ℕ
 CLOCK-END = 2 ^ 62
 
--- "a delay of 0 to 2^32 - 1 µs"; "Advance adds 0 to 2^32 - 1"
+-- "a delay of 0 to 2^32 - 1 µs", "an interval of .. to 2^32 - 1"; "Advance adds 0 to 2^32 - 1"
 abbrev pub LONGEST : ℕ
 LONGEST = 2 ^ 32 - 1
 
--- "a positive one, at most 2^31 - 1": a wait in milliseconds
+-- "periodic intervals below 100 µs become malformed"
+abbrev pub SHORTEST-INTERVAL : ℕ
+SHORTEST-INTERVAL = 100
+
+-- "Positive waits above 86,400,000 .. become malformed": a wait in milliseconds, so a day
 abbrev pub LONGEST-WAIT : ℕ
-LONGEST-WAIT = 2 ^ 31 - 1
+LONGEST-WAIT = 86400000
 
 -- "due times at most 2^62 + 2^32"; a deadline "at most 2^62 + 2^41"
 abbrev pub DUE-END : ℕ

@@ -53,12 +53,14 @@ pub const LAST_LEVEL: u64 = 3;
 
 pub const LEVELS: u64 = LAST_LEVEL + 1;
 
-// The clock at its end; the longest delay, interval or step; the longest wait; the latest due time and deadline; no time is later.
+// The clock at its end; the longest delay, interval or step; the shortest interval; the longest wait, in milliseconds; the latest due time and deadline; no time is later.
 pub const CLOCK_END: u64 = 0x4000_0000_0000_0000;
 
 pub const LONGEST: u64 = 4_294_967_295;
 
-pub const LONGEST_WAIT: i64 = 2_147_483_647;
+pub const SHORTEST_INTERVAL: u64 = 100;
+
+pub const LONGEST_WAIT: i64 = 86_400_000;
 
 pub const DUE_END: u64 = 0x4000_0001_0000_0000;
 

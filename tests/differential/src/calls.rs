@@ -16,8 +16,8 @@ macro_rules! calls {
                 Receive(sender: u64, class: u64, tag: u64, wait: i64) =
                     fg_receive, receive -> Received,                      [   20,    10,    35,    20,     6,     6,     2,     3], |g| g.receive();
                 Shown = fg_shown, shown -> Shown,                         [    4,     3,     6,     2,     2,     2,     1,     1], |_| Call::Shown;
-                After(delay: u64) = fg_after, after -> Made,              [    4,     1,     1,    14,     3,     3,    10,     2], |g| Call::After(g.step());
-                Every(interval: u64) = fg_every, every -> Made,           [    3,     1,     1,    10,     2,     1,    10,     1], |g| Call::Every(g.step());
+                After(delay: u64) = fg_after, after -> Made,              [    4,     1,     1,    14,     3,     3,    10,     2], |g| Call::After(g.delay());
+                Every(interval: u64) = fg_every, every -> Made,           [    3,     1,     1,    10,     2,     1,    10,     1], |g| Call::Every(g.interval());
                 Cancel(timer: u64) = fg_cancel, cancel -> u64,            [    3,     1,     1,     5,     1,     1,     1,     1], |g| Call::Cancel(g.some_timer());
                 Link(partner: u64) = fg_link, link -> u64,                [    4,     1,     1,     1,    18,     5,    14,     1], |g| Call::Link(g.actor());
                 Unlink(partner: u64) = fg_unlink, unlink -> u64,          [    2,     1,     1,     1,     4,     1,     1,     1], |g| Call::Unlink(g.some_partner());

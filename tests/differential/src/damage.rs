@@ -454,6 +454,7 @@ impl Table<'_> {
             self.word("interval above its range", INTERVAL, i, MAX_STEP + 1);
             if self.state.timers.get(i).is_some() {
                 self.word("timer of age 0", TIMER_AGE, i, 0);
+                self.word("interval below its range", INTERVAL, i, MIN_INTERVAL - 1);
                 if let Some(free) = self.free_actor() {
                     self.word("timer of a free slot", TIMER_OWNER, i, free as u64 + 1);
                 }

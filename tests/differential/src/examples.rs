@@ -120,6 +120,7 @@ pub fn compare_examples() -> Checked {
     sleeps()?;
     metronome()?;
     limits()?;
+    waits_and_intervals()?;
     bench_run()?;
     no_history()?;
     oldest_evicted()
@@ -198,6 +199,20 @@ fn limits() -> Checked {
     bench.expect(notify(64, 0, 253), Answer::Number(MALFORMED))?;
     bench.expect(notify(64, 134_217_726, 0), Answer::Number(DONE))?;
     bench.expect(Call::Link(64), Answer::Number(MALFORMED))
+}
+
+/// A wait of a day and one without end pass, one a millisecond longer is malformed; an interval of 100 passes, one of 99 is malformed.
+fn waits_and_intervals() -> Checked {
+    let mut bench = Bench::running("waits and intervals at their limits", LARGEST, 2)?;
+    let malformed = Answer::Made(Made { no: MALFORMED, id: 0 });
+    bench.expect(Call::Every(99), malformed)?;
+    bench.expect(Call::Every(100), made(64))?;
+    bench.expect(Call::Cancel(64), Answer::Number(DONE))?;
+    bench.expect(receive_any(86_400_001), nothing_received(MALFORMED))?;
+    bench.expect(receive_any(86_400_000), nothing_received(WAITING))?;
+    bench.expect(Call::Next, turn(65))?;
+    bench.expect(receive_any(-1), nothing_received(WAITING))?;
+    bench.expect(Call::Next, sleep(86_400_000_000))
 }
 
 fn bench_run() -> Checked {

@@ -2,13 +2,13 @@
 //! the differential test finds them: the wrong runtimes that document 01 names, and errors that are easy to make.
 
 use crate::call::{Answer, Call, Written};
-use crate::layout::{self, CLOCK, DATA_FREE, SPARE};
+use crate::layout::{self, CLOCK, DATA_FREE, INTERVAL, SPARE};
 use model::limits::*;
 use model::state::{Activity, Reason, State};
 use model::{Advanced, Ended, Model, DONE};
 use std::sync::OnceLock;
 
-pub const NAMES: [&str; 35] = [
+pub const NAMES: [&str; 38] = [
     "all-unsound",
     "next-names-slot-0",
     "notify-stores-nothing",
@@ -24,6 +24,9 @@ pub const NAMES: [&str; 35] = [
     "due-from-the-clock",
     "due-a-beat-early",
     "due-a-beat-late",
+    "longest-wait-refused",
+    "short-interval-taken",
+    "short-interval-sound",
     "age-not-raised",
     "worn-slot-taken",
     "freed-bytes-stay",
@@ -74,7 +77,18 @@ pub fn read(words: &[u64], bytes: &[u8]) -> Option<State> {
     if is("free-bytes-not-tested") {
         clear_free_entries(&words, &mut bytes);
     }
+    if is("short-interval-sound") {
+        lengthen_intervals(&mut words, &bytes);
+    }
     layout::decode(&words, &bytes)
+}
+
+/// Makes each interval that is just too short the shortest one.
+fn lengthen_intervals(words: &mut [u64], bytes: &[u8]) {
+    let Some(caps) = layout::capacities(words, bytes) else { return };
+    let start = layout::starts(&caps)[INTERVAL];
+    let short = words[start..].iter_mut().take(caps[5] as usize).filter(|word| **word == MIN_INTERVAL - 1);
+    short.for_each(|word| *word = MIN_INTERVAL);
 }
 
 fn clear_free_entries(words: &[u64], bytes: &mut [u8]) {
@@ -128,6 +142,12 @@ pub fn call(call: Call, before: &Model) -> Call {
         }
         Call::Receive(sender, class, tag, wait) if is("head-instead-of-match") && tag < ANY_TAG => {
             Call::Receive(sender, class, ANY_TAG, wait)
+        }
+        Call::Receive(sender, class, tag, MAX_WAIT) if is("longest-wait-refused") => {
+            Call::Receive(sender, class, tag, MAX_WAIT + 1)
+        }
+        Call::Every(interval) if is("short-interval-taken") && interval == MIN_INTERVAL - 1 => {
+            Call::Every(MIN_INTERVAL)
         }
         call => call,
     }

@@ -376,12 +376,21 @@ impl Generator<'_> {
         }
     }
 
-    /// Delays and intervals.
-    fn step(&mut self) -> u64 {
+    fn delay(&mut self) -> u64 {
         if self.odd() {
             self.random.pick(&[0, 1, MAX_STEP - 1, MAX_STEP, MAX_STEP + 1, 1 << 62, u64::MAX])
         } else {
             self.random.pick(&[0, 1, 10, 500, 999, 1_000, 1_000, 1_001, 2_000, 10_000])
+        }
+    }
+
+    fn interval(&mut self) -> u64 {
+        if self.odd() {
+            let around = [0, 1, MIN_INTERVAL - 1, MIN_INTERVAL, MIN_INTERVAL + 1];
+            let above = [MAX_STEP - 1, MAX_STEP, MAX_STEP + 1, 1 << 62, u64::MAX];
+            self.random.pick(&[around, above].concat())
+        } else {
+            self.random.pick(&[MIN_INTERVAL, MIN_INTERVAL, 101, 500, 999, 1_000, 1_000, 1_001, 2_000, 10_000])
         }
     }
 

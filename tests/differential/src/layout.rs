@@ -375,7 +375,8 @@ fn read_timers(r: &Reader, state: &mut State) -> Option<()> {
         }
         let owner = r.named(TIMER_OWNER, i, r.size(0))?;
         let (due, interval) = (r.at(DUE, i), r.at(INTERVAL, i));
-        require(age >= 1 && state.actors.get(owner).is_some() && due <= MAX_DUE && interval <= MAX_STEP)?;
+        require(age >= 1 && state.actors.get(owner).is_some() && due <= MAX_DUE)?;
+        require(interval == 0 || (MIN_INTERVAL..=MAX_STEP).contains(&interval))?;
         let interval = (interval != 0).then_some(interval);
         state.timers.slots[i].held = Some(Timer { owner, due, interval });
     }

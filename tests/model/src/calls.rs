@@ -143,7 +143,7 @@ impl Model {
 
     /// A periodic timer.
     pub fn every(&mut self, interval: u64) -> Made {
-        made(self.arm(interval, (1..=MAX_STEP).contains(&interval), Some(interval)))
+        made(self.arm(interval, (MIN_INTERVAL..=MAX_STEP).contains(&interval), Some(interval)))
     }
 
     fn arm(&mut self, step: u64, well_formed: bool, interval: Option<u64>) -> Refused<u64> {

@@ -15,7 +15,10 @@ pub const MAX_AGE: u64 = 33_000_000;
 pub const MAX_CLOCK: u64 = 1 << 62;
 /// Delays, intervals and steps of the clock are at most this many microseconds.
 pub const MAX_STEP: u64 = (1 << 32) - 1;
-pub const MAX_WAIT: i64 = (1 << 31) - 1;
+/// A periodic timer's interval is at least this many microseconds.
+pub const MIN_INTERVAL: u64 = 100;
+/// A wait is at most this many milliseconds, a day.
+pub const MAX_WAIT: i64 = 86_400_000;
 pub const MAX_DUE: u64 = (1 << 62) + (1 << 32);
 pub const MAX_DEADLINE: u64 = (1 << 62) + (1 << 41);
 

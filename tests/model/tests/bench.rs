@@ -108,7 +108,6 @@ fn time_to_sleep() {
 fn arguments_at_their_limits() {
     let mut m = running(LARGE, 1);
     assert_eq!(any(&mut m, -2).no, MALFORMED);
-    assert_eq!(any(&mut m, MAX_WAIT + 1).no, MALFORMED);
     assert_eq!(m.notify(64, 0, &[1; 252]), DONE);
     assert_eq!(m.notify(64, 0, &[1; 253]), MALFORMED);
     assert_eq!(m.notify(64, 134_217_726, &[]), DONE);
@@ -121,6 +120,38 @@ fn arguments_at_their_limits() {
     assert_eq!(m.exit(65_536).no, MALFORMED);
     assert_eq!(m.advance(1 << 32).no, MALFORMED);
     assert_eq!(m.spawn(4).no, MALFORMED);
+}
+
+#[test]
+fn a_wait_ends_within_a_day_unless_it_is_for_ever() {
+    let day = 86_400_000;
+    let mut m = running(LARGE, 2);
+    assert_eq!(any(&mut m, day + 1).no, MALFORMED);
+    assert_eq!(any(&mut m, (1 << 31) - 1).no, MALFORMED);
+    assert_eq!(any(&mut m, i64::MAX).no, MALFORMED);
+    assert_eq!(any(&mut m, day).no, WAITING);
+    assert_eq!(m.next().id, 65);
+    assert_eq!(any(&mut m, -1).no, WAITING);
+    assert_eq!(m.next().sleep, 1_000 * day);
+    let mut slept = 0;
+    while slept < 1_000 * day as u64 {
+        let step = MAX_STEP.min(1_000 * day as u64 - slept);
+        assert_eq!(m.advance(step).no, DONE);
+        slept += step;
+    }
+    assert_eq!(m.next(), Turn { no: DONE, id: 64, reason: 2, sleep: 0 });
+}
+
+#[test]
+fn an_interval_has_at_least_100_microseconds_and_a_delay_may_be_shorter() {
+    let mut m = running(LARGE, 1);
+    for short in [0, 1, 99] {
+        assert_eq!(m.every(short).no, MALFORMED);
+        assert_eq!(m.after(short).no, DONE);
+    }
+    assert_eq!(m.every(100).no, DONE);
+    assert_eq!(m.every((1 << 32) - 1).no, DONE);
+    assert_eq!(m.every(1 << 32).no, MALFORMED);
 }
 
 #[test]
@@ -176,12 +207,12 @@ fn an_empty_payload_is_shown_with_its_place() {
 #[test]
 fn ticks_come_before_deadlines_and_a_periodic_timer_ticks_once() {
     let mut m = running(LARGE, 1);
-    assert_eq!(m.every(10).id, 64);
+    assert_eq!(m.every(100).id, 64);
     assert_eq!(any(&mut m, 1).no, WAITING);
     assert_eq!(m.advance(5_000), Advanced { no: DONE, fired: 1 });
     assert_eq!(m.next().reason, 1);
     assert_eq!(any(&mut m, 0), Received { no: DONE, sender: 0, class: 3, tag: 0, length: 8 });
-    assert_eq!(due(&m, 0), 5_010);
+    assert_eq!(due(&m, 0), 5_100);
     assert_eq!(m.cancel(64), DONE);
     assert_eq!(m.cancel(64), UNKNOWN);
 }

@@ -76,6 +76,7 @@ fn limits() -> Vec<Limit> {
         ("FG_HEADER_BYTES", "HEADER_BYTES", HEADER_BYTES.into()),
         ("FG_MAX_CLOCK", "CLOCK_END", MAX_CLOCK.into()),
         ("FG_MAX_STEP", "LONGEST", MAX_STEP.into()),
+        ("FG_MIN_INTERVAL", "SHORTEST_INTERVAL", MIN_INTERVAL.into()),
         ("FG_MAX_WAIT", "LONGEST_WAIT", MAX_WAIT.into()),
         ("FG_MAX_BUSES", "MOST_BUSES", MAX_BUSES as i128),
         ("FG_MAX_BUS_ENTRIES", "MOST_VALUES", MAX_BUS_ENTRIES.into()),

@@ -343,9 +343,11 @@ fn monitors(tables: &Tables, who: &Who) -> bool {
     slots.all(|((&watcher, &watched), &age)| watcher | watched == 0 || (age != 0) & who.join(watcher, watched))
 }
 
-/// Timers have live owners and an age.
+/// Timers have live owners and an age; a periodic one's interval is not too short.
 fn timers(tables: &Tables, who: &Who) -> bool {
     let times = tables.timers.due.iter().zip(&*tables.timers.interval);
     let mut slots = tables.timers.owner.iter().zip(&*tables.timers.age).zip(times);
-    slots.all(|((&owner, &age), (&due, &interval))| owner | due | interval == 0 || (age != 0) & who.lives(owner))
+    slots.all(|((&owner, &age), (&due, &interval))| {
+        owner | due | interval == 0 || (age != 0) & ((interval == 0) | (MIN_INTERVAL <= interval)) & who.lives(owner)
+    })
 }

@@ -3,7 +3,7 @@ use Prim.Native.Nat.{ℕ, suc, _+_, _-_, _≤_}
 use native.Mathlib.Decide.{decLt}
 use native.Mathlib.Omega.{arith}
 use mathlib.Core.Path.{_≡_, refl}
-use mathlib.Core.Bool.{Bool, true, false, not, _&&_, _||_}
+use mathlib.Core.Bool.{Bool, true, false, not, _&&_}
 use mathlib.Core.List.{List, [], _∷_}
 use lib.ListN.{length, getD, set}
 use lib.Seq.{getD-set-same, getD-set-other, set-out}
@@ -21,11 +21,12 @@ use Rattle.tables.specs.Action.{push}
 use Rattle.rules.specs.Actions.{ready}
 use Rattle.rules.specs.Aged.{monitorPool, timerPool}
 use Rattle.rules.specs.Terms.{runner}
-use Rattle.rules.specs.Calls.{armEntry, entry, monitorEntry, monitorFor, slotFor, spawnEntry, timerFor}
+use Rattle.rules.specs.Calls.{armEntry, badInterval, entry, monitorEntry, monitorFor, slotFor, spawnEntry, timerFor}
 use Rattle.rules.proofs.Frames.Actions.{TIMED}
 use Rattle.rules.proofs.Frames.Calls.{beside-arm, beside-spawn}
 use Rattle.rules.proofs.Frames.Pools.{Begins, use-begins}
-use Rattle.rules.proofs.Claims.{AGES, Framed, Grown}
+use Rattle.rules.proofs.Kept.Waits.{WAIT-TIMES, daily-still}
+use Rattle.rules.proofs.Claims.{AGES, Framed, Grown, Waits}
 use Rattle.rules.proofs.Frames.Wrote.{All, Beside, apart, beside-of, mem}
 
 -- a use of slot i begins
@@ -64,6 +65,7 @@ spawn-framed priority = record {
   frame = beside-spawn priority;
   past = refl;
   ages = λ k s. (raised s (spawnEntry priority .work k s .state) AGE (slotFor k s) (spawn-raised priority k s), stills (beside-spawn priority k s) (TIMER-AGE ∷ MONITOR-AGE ∷ []) refl);
+  waits = λ k s p. daily-still (beside-spawn priority k s) refl;
 }
 
 -- after and every raise that of a slot of timers
@@ -77,10 +79,10 @@ module _ (delay interval : ℕ) (bad : Bool) where
       (still w AGE refl, (raised s (armEntry delay interval bad .work k s .state) TIMER-AGE (timerFor k s) (arm-raised k s), stills w (MONITOR-AGE ∷ []) refl))
 
 pub after-framed : (delay : ℕ) → Framed (after delay)
-after-framed delay = let bad = ltb LONGEST delay in record { writes = TIMED; frame = beside-arm delay 0 bad; past = refl; ages = arm-ages delay 0 bad }
+after-framed delay = let bad = ltb LONGEST delay in record { writes = TIMED; frame = beside-arm delay 0 bad; past = refl; ages = arm-ages delay 0 bad; waits = λ k s p. daily-still (beside-arm delay 0 bad k s) refl }
 
 pub every-framed : (interval : ℕ) → Framed (every interval)
-every-framed interval = let bad = eqb interval 0 || ltb LONGEST interval in record { writes = TIMED; frame = beside-arm interval interval bad; past = refl; ages = arm-ages interval interval bad }
+every-framed interval = let bad = badInterval interval in record { writes = TIMED; frame = beside-arm interval interval bad; past = refl; ages = arm-ages interval interval bad; waits = λ k s p. daily-still (beside-arm interval interval bad k s) refl }
 
 -- a monitor that of a slot of monitors
 pub monitor-framed : (id : ℕ) → Framed (monitor id)
@@ -90,6 +92,7 @@ monitor-framed id = record {
   past = refl;
   ages = λ k s. let w = beside-of (begun k s .wrote) in
       (still w AGE refl, (still w TIMER-AGE refl, (raised s (monitorEntry id .work k s .state) MONITOR-AGE (monitorFor k s) (begun k s .age), tt)));
+  waits = λ k s p. daily-still (beside-of (begun k s .wrote)) refl;
 }
   where
     -- the use of a slot begins
@@ -97,10 +100,19 @@ monitor-framed id = record {
     begun k s = use-begins monitorPool s (monitorFor k s) (runner s) _ refl refl
 
 -- every other call: it writes neither ages nor what is past the needed words and bytes
-pub framed : (o : Op) {ws : List ℕ} → ((k : Caps) (s : State) → Beside ws s (entry o .work k s .state)) → apart AGES ws && apart (REST ∷ PAST ∷ []) ws ≡ true → Framed o
-framed o {ws} w e = record {
-  writes = ws;
-  frame = w;
-  past = and-right (apart AGES ws) (apart (REST ∷ PAST ∷ []) ws) e;
-  ages = λ k s. stills (w k s) AGES (and-left (apart AGES ws) (apart (REST ∷ PAST ∷ []) ws) e);
-}
+module _ (o : Op) {ws : List ℕ} (w : (k : Caps) (s : State) → Beside ws s (entry o .work k s .state)) where
+  -- but clock or deadlines
+  pub framed-with : Waits o → apart AGES ws && apart (REST ∷ PAST ∷ []) ws ≡ true → Framed o
+  framed-with waits e = record {
+    writes = ws;
+    frame = w;
+    past = and-right (apart AGES ws) (apart (REST ∷ PAST ∷ []) ws) e;
+    ages = λ k s. stills (w k s) AGES (and-left (apart AGES ws) (apart (REST ∷ PAST ∷ []) ws) e);
+    waits = waits;
+  }
+
+  -- nor these
+  pub framed : apart WAIT-TIMES ws && (apart AGES ws && apart (REST ∷ PAST ∷ []) ws) ≡ true → Framed o
+  framed e =
+      let others = apart AGES ws && apart (REST ∷ PAST ∷ []) ws in
+      framed-with (λ k s p. daily-still (w k s) (and-left (apart WAIT-TIMES ws) others e)) (and-right (apart WAIT-TIMES ws) others e)

@@ -50,20 +50,24 @@ pub beside-own : (P : Aged) (a n : ℕ) (s : State) → Beside (P .word ∷ P .r
 beside-own P a n s = beside-of (own-ends P a s n .wrote)
 
 -- ---- advance
+-- timers that fire
+abbrev pub FIRED : List ℕ
+FIRED = INTERVAL ∷ DUE ∷ TIMER-OWNER ∷ POSTED
+
 abbrev pub ADVANCED : List ℕ
-ADVANCED = CLOCK ∷ INTERVAL ∷ DUE ∷ TIMER-OWNER ∷ (POSTED ++ AIRED)
+ADVANCED = CLOCK ∷ (FIRED ++ AIRED)
 
 -- every timer that fires
-beside-fireAll : (k : Caps) (m : ℕ) (f : Fired) → Beside ADVANCED (f .state) (fireAll k m f .state)
+pub beside-fireAll : (k : Caps) (m : ℕ) (f : Fired) → Beside FIRED (f .state) (fireAll k m f .state)
 unfolding fireAll fire
-beside-fireAll k zero f = beside-still ADVANCED (f .state)
+beside-fireAll k zero f = beside-still FIRED (f .state)
 beside-fireAll k (suc m) f =
     split (not (eqb (nextDue k (f .state)) 0) && hasRoom k (f .state))
-    (λ q. rw q (beside-over ADVANCED (beside-over ADVANCED (beside-of (wrote-rearm (f .state) _)) (beside-of (wrote-post k (rearm (f .state) _) _ 0 _ _)) refl) (beside-fireAll k m _) refl))
-    (λ q. rw q (beside-still ADVANCED (f .state)))
+    (λ q. rw q (beside-over FIRED (beside-over FIRED (beside-of (wrote-rearm (f .state) _)) (beside-of (wrote-post k (rearm (f .state) _) _ 0 _ _)) refl) (beside-fireAll k m _) refl))
+    (λ q. rw q (beside-still FIRED (f .state)))
 
 -- every one whose deadline has come
-beside-rouse : (k : Caps) (m : ℕ) (s : State) → Beside POSTED s (rouse k m s)
+pub beside-rouse : (k : Caps) (m : ℕ) (s : State) → Beside POSTED s (rouse k m s)
 unfolding rouse
 beside-rouse k zero s = beside-still POSTED s
 beside-rouse k (suc m) s =

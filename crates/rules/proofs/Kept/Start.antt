@@ -15,10 +15,10 @@ use Rattle.pools.specs.Pool.{occurs}
 use Rattle.pools.specs.Bits.{bit, free, WORD-BITS}
 use Rattle.pools.proofs.BoolLaws.{split, true-false, and-left, and-right}
 use Rattle.tables.specs.declared.Caps.{Caps}
-use Rattle.tables.specs.Columns.{ACTORS, DATA-FREE, DATAS, LINKS, MAIL-FREE, MAILS, MONITORS, PAST, PAYLOAD, REST, TIMERS}
+use Rattle.tables.specs.Columns.{ACTORS, DATA-FREE, DATAS, DEADLINE, LINKS, MAIL-FREE, MAILS, MONITORS, PAST, PAYLOAD, REST, TIMERS}
 use Rattle.tables.specs.Sizes.{ALL-SEATS, BIT-WORDS, COLUMN-BITS, SPARES}
 use Rattle.tables.specs.Limits.{ENTRY-BYTES}
-use Rattle.tables.specs.State.{InRange, Room, Sized, State, capsOf, head, needed, neededP, poke, size, sizes, view, with-col}
+use Rattle.tables.specs.State.{InRange, Room, Sized, State, at, capsOf, head, needed, neededP, poke, size, sizes, view, with-col}
 use Rattle.rules.specs.Rule.{Holds, test}
 use Rattle.rules.specs.Sound.{pairRule, rangeRule, soundRule, viewOf, zeros}
 use Rattle.rules.specs.Terms.{alive}
@@ -85,6 +85,11 @@ zero-occurs : (n d : ℕ) → occurs (suc d) (replicate n 0) ≡ 0
 unfolding occurs
 zero-occurs zero d = refl
 zero-occurs (suc n) d = rw (ne-eqb 0 (suc d) (λ e. omega arith)) (omega (arith, zero-occurs n d))
+
+-- nobody waits
+pub fresh-waits : (k : Caps) (s : State) (a : ℕ) → at (fresh k s) DEADLINE a ≡ 0
+unfolding fresh freed stated zeroed with-col poke
+fresh-waits k s a = zero-at (k .actors) a
 
 -- ---- each rule, of a state of zeros
 -- a state of which start says every column
@@ -216,14 +221,14 @@ can-room k w p e =
       bytes = leb-true (neededP k) (length p) (and-right (leb (needed k) (length w)) _ fits);
     }
 
--- THE THEOREM: a start that answers 0 leaves sound buffers, with the capacities asked for, that hold nothing; any other answers 1 and changes nothing
+-- THE THEOREM: a start that answers 0 leaves sound buffers, with the capacities asked for, that hold nothing: a fresh state; any other answers 1 and changes nothing
 pub started : (k : Caps) (w p : List ℕ) (r : Answer) (w′ p′ : List ℕ) → Started k w p r w′ p′ → number r ≡ 0 →
-    Holds (soundRule w′ p′) × (capsOf w′ ≡ k) × Agrees k (nothing (sizesOf k)) (viewOf w′ p′)
+    Holds (soundRule w′ p′) × (capsOf w′ ≡ k) × Agrees k (nothing (sizesOf k)) (viewOf w′ p′) × (viewOf w′ p′ ≡ fresh k (view k w p))
 started k w p r w′ p′ c e =
     split (canStart k w p)
     (λ q. let room = can-room k w p q in
     let j = join-sound k (fresh k (view k w p)) (fresh-good k (view k w p) (room .caps)) in
-    rw (rw q at (c .words), rw q at (c .bytes)) (j .0, j .2, rw (j .1) (fresh-agrees k (view k w p) (room .caps))))
+    rw (rw q at (c .words), rw q at (c .bytes)) (j .0, j .2, rw (j .1) (fresh-agrees k (view k w p) (room .caps)), j .1))
     (λ q. absurd (let n : number r ≡ 1 = ap number (rw q at (c .ans)) in omega arith))
 
 pub start-refused : (k : Caps) (w p : List ℕ) (r : Answer) (w′ p′ : List ℕ) → Started k w p r w′ p′ → (number r ≡ 0 → ⊥) → (r ≡ plain 1) × (w′ ≡ w) × (p′ ≡ p)

@@ -4,7 +4,7 @@ use native.Mathlib.Omega.{arith}
 use mathlib.Core.List.{[], _∷_}
 use mathlib.Core.Path.{_≡_, refl, ap, _∙_}
 use mathlib.Core.Logic.{_⊎_, ⊎-elim}
-use mathlib.Core.Bool.{Bool, true, false, not, _&&_, _||_}
+use mathlib.Core.Bool.{Bool, true, false, not, _&&_}
 use lib.ListN.{length}
 use lib.Seq.{getD-set-same}
 use lib.Dec.{eqb, ltb, lit<}
@@ -16,13 +16,13 @@ use Rattle.pools.proofs.SlotLaws.{live-is, of-live}
 use Rattle.ledger.specs.Call.Op.{after, every, cancel, link, unlink, monitor, demonitor}
 use Rattle.tables.specs.declared.Caps.{Caps}
 use Rattle.tables.specs.Columns.{AGE, CLOCK, DUE, INTERVAL, LINK-ONE, LINK-TWO, MONITOR-AGE, STATE, TIMER-AGE, TIMER-OWNER, WATCHED, WATCHER}
-use Rattle.tables.specs.Limits.{ACTOR-FACTOR, DUE-END, LONGEST, MONITOR-FACTOR, OLDEST, TIMER-FACTOR}
+use Rattle.tables.specs.Limits.{ACTOR-FACTOR, DUE-END, LONGEST, MONITOR-FACTOR, OLDEST, SHORTEST-INTERVAL, TIMER-FACTOR}
 use Rattle.tables.specs.State.{Sized, State, at, head, poke, with-col}
 use Rattle.rules.specs.Aged.{beginUse, timerPool, monitorPool}
 use Rattle.rules.specs.Rule.{Holds}
 use Rattle.rules.specs.Terms.{alive, isActor, joins, runner, runnerId}
-use Rattle.rules.specs.Sound.{endsRule, linkRule, pairRule, armedRule, watchesRule}
-use Rattle.rules.specs.Calls.{arm, armEntry, disarm, dropMonitors, dropTimers, linkFor, linkOf, monitorFor, tie, timerFor, unwatch, watch}
+use Rattle.rules.specs.Sound.{endsRule, intervalRule, linkRule, pairRule, armedRule, watchesRule}
+use Rattle.rules.specs.Calls.{arm, armEntry, badInterval, disarm, dropMonitors, dropTimers, linkFor, linkOf, monitorFor, tie, timerFor, unwatch, watch}
 use Rattle.rules.proofs.Frames.Pools.{Ends, own-ends, own-none, use-ends, next-slot, begins-sound, ends-sound, use-begins, own-is}
 use Rattle.rules.proofs.Claims.{Keeps}
 use Rattle.rules.proofs.Frames.Wrote.{wrote-none}
@@ -34,13 +34,13 @@ use Rattle.rules.proofs.Kept.Patch.{_by_also_, done, patch}
 use Rattle.rules.proofs.Lists.Columns.{alive-of, each-set, other}
 use Rattle.rules.proofs.Reckoned.Ledger.{runner-alive}
 use Rattle.rules.proofs.Lists.Ties.{down, below, joins-zero, pairs-set}
-use Rattle.rules.proofs.Kept.Clauses.{clock-fits}
+use Rattle.rules.proofs.Kept.Clauses.{clock-fits, interval-none}
 
 -- ---- timers
 module _ (k : Caps) (s : State) (g : Good k s) where
   -- a timer begins
   pub arm-keeps : (i a time interval : ℕ) → i < k .timers → at s TIMER-AGE i < OLDEST → alive (s STATE) a ≡ true →
-      time ≤ DUE-END → interval ≤ LONGEST → Good k (arm s i a time interval)
+      time ≤ DUE-END → Holds (intervalRule interval) → Good k (arm s i a time interval)
   unfolding beginUse poke with-col
   arm-keeps i a time interval l y h x z =
       let b = use-begins timerPool s i (suc a) (time ∷ interval ∷ []) refl refl in
@@ -67,7 +67,7 @@ pub disarm-keeps : (k : Caps) (s : State) (i : ℕ) → Good k s → i < k .time
 disarm-keeps k s i g l = timers-end-keeps k s (disarm s i) (λ e. eqb e i) g (use-ends timerPool s i)
 
 -- "A one-shot .. a periodic one": a call that makes a timer keeps a sound state sound
-pub armed-keeps : (delay interval : ℕ) (bad : Bool) → delay ≤ LONGEST → interval ≤ LONGEST → (k : Caps) (s : State) → Good k s →
+pub armed-keeps : (delay interval : ℕ) (bad : Bool) → delay ≤ LONGEST → Holds (intervalRule interval) → (k : Caps) (s : State) → Good k s →
     Passed (armEntry delay interval bad .tests k s) → Good k (armEntry delay interval bad .work k s .state)
 armed-keeps delay interval bad d n k s g p =
     let i = timerFor k s in
@@ -77,13 +77,14 @@ armed-keeps delay interval bad d n k s g p =
 
 -- a one-shot
 pub after-keeps : (delay : ℕ) → Keeps (after delay)
-after-keeps delay k s g p = armed-keeps delay 0 (ltb LONGEST delay) (ltb-false LONGEST delay (second-passed p)) (omega arith) k s g p
+after-keeps delay k s g p = armed-keeps delay 0 (ltb LONGEST delay) (ltb-false LONGEST delay (second-passed p)) interval-none k s g p
 
 -- a periodic one
 pub every-keeps : (interval : ℕ) → Keeps (every interval)
 every-keeps interval k s g p =
-    let h = ltb-false LONGEST interval (neither (eqb interval 0) (ltb LONGEST interval) (second-passed p) .1) in
-    armed-keeps interval interval (eqb interval 0 || ltb LONGEST interval) h h k s g p
+    let (short, long) = neither (ltb interval SHORTEST-INTERVAL) (ltb LONGEST interval) (second-passed p) in
+    let h = ltb-false LONGEST interval long in
+    armed-keeps interval interval (badInterval interval) h (h, λ periodic. omega (arith, ltb-false interval SHORTEST-INTERVAL short)) k s g p
 
 -- taking a timer back keeps a sound state sound
 pub cancel-keeps : (id : ℕ) → Keeps (cancel id)

@@ -31,7 +31,7 @@ use Rattle.rules.proofs.Reckoned.Beats.{beat-same}
 use Rattle.rules.proofs.Reckoned.Pools.{pool-reads}
 use Rattle.rules.proofs.Reckoned.Firing.{Once, isId, those-most}
 use Rattle.rules.specs.Good.{Good}
-use Rattle.rules.proofs.Kept.Clauses.{interval-fits, timer-owner-lives}
+use Rattle.rules.proofs.Kept.Clauses.{interval-right, timer-owner-lives}
 use Rattle.rules.proofs.Lists.Columns.{each-set, other}
 use Rattle.rules.proofs.Reckoned.Ledger.{first-map, map-same-on, some-map, some-no, some-yes, those-map, words-left}
 use Rattle.rules.proofs.Lists.Ties.{slot-id-eqb}
@@ -50,7 +50,7 @@ redue-keeps k s i t g l u h =
     patch k g (wrote-poke (wrote-none s) DUE i t) (Part.timers by
     (λ j m. each-set (λ j. Holds (timerRule (poke s DUE i t) j)) i j
     (rw (getD-set-same (s DUE) i t 0 (omega (arith, g .sized .words DUE (lit< tt))))
-    (g .timers i l .0, ((λ z. absurd (u z)), (λ z. (timer-owner-lives g i l z, (h, interval-fits g i))))))
+    (g .timers i l .0, ((λ z. absurd (u z)), (λ z. (timer-owner-lives g i l z, (h, interval-right g i))))))
     (λ q. rw (other (s DUE) i t j q) (g .timers j m))) also done) refl
 
 -- ---- the timer that fires

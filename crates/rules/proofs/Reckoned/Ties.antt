@@ -2,7 +2,7 @@
 use Prim.Native.Nat.{ℕ, suc, _+_, _-_, _≤_, _<_}
 use native.Mathlib.Omega.{arith}
 use mathlib.Core.Path.{_≡_, refl, sym, ap, ap₂, subst, _∙_}
-use mathlib.Core.Bool.{Bool, true, false, and-false, not, _&&_, _||_}
+use mathlib.Core.Bool.{Bool, true, false, and-false, not, _&&_}
 use mathlib.Core.List.{List, [], _∷_, _++_, map}
 use lib.ListN.{getD, length, set}
 use lib.Seq.{getD-set-same}
@@ -29,7 +29,7 @@ use Rattle.tables.specs.State.{InRange, Sized, State, at, head, poke, with-col}
 use Rattle.rules.specs.Aged.{beginUse, timerPool, monitorPool, nextId}
 use Rattle.rules.specs.Terms.{actorId, alive, isActor, joins, monitorId, runner, runnerId, timerId}
 use Rattle.rules.specs.Agrees.{Agrees, linkAt, monitorAt, timerAt, InPool}
-use Rattle.rules.specs.Calls.{nobody as nobodyIn, arm, armEntry, disarm, dropMonitors, dropTimers, linkFor, linkOf, monitorFor, tie, timerFor, unwatch, watch}
+use Rattle.rules.specs.Calls.{nobody as nobodyIn, arm, armEntry, badInterval, disarm, dropMonitors, dropTimers, linkFor, linkOf, monitorFor, tie, timerFor, unwatch, watch}
 use Rattle.rules.specs.Run.{sayMade}
 use Rattle.rules.specs.Sound.{pairRule}
 use Rattle.rules.proofs.Reckoned.Pools.{pool-begins, pool-ends, pool-own, pool-used, slots-full, things-begin, things-end}
@@ -114,7 +114,7 @@ after-agrees delay k s l g a p = armed-agrees k l s g a (after delay) delay 0 (l
 
 -- "a periodic one an interval"
 pub every-agrees : (interval : ℕ) → Agreed (every interval)
-every-agrees interval k s l g a p = armed-agrees k l s g a (every interval) interval interval (eqb interval 0 || ltb LONGEST interval) (λ r. refl) p
+every-agrees interval k s l g a p = armed-agrees k l s g a (every interval) interval interval (badInterval interval) (λ r. refl) p
 
 -- "a monitor or timer only its owner, by its id"
 pub cancel-agrees : (id : ℕ) → Agreed (cancel id)
@@ -137,7 +137,7 @@ after-same delay = arm-same delay 0 (ltb LONGEST delay)
 
 -- a periodic one
 pub every-same : (interval : ℕ) → Tested (every interval)
-every-same interval = arm-same interval interval (eqb interval 0 || ltb LONGEST interval)
+every-same interval = arm-same interval interval (badInterval interval)
 
 -- ---- the links' columns alone differ
 module _ (k : Caps) (l : Ledger) (s u : State) where

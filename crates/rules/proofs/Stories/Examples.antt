@@ -58,7 +58,7 @@ unfolding airing leaveBuses ruled lowest le exitBytes readExit tickBytes poke wi
     least letGo post ready stir unfill unwait beginUse await cutLink cutLinks cutMonitor cutMonitors endUse dropAll dropFirst endOwn depart fire fireAll
     firstHead handOver loosen vacate nextBeat rearm receiveBare rouse run sleep tell tie fresh freed stated zeroed afterwards lines
 small =
-    ((refl, λ s. refl), ((refl, λ s. refl), ((refl, λ s. refl), ((refl, λ s. refl), ((refl, λ s. refl), ((refl, λ s. refl), ((refl, λ s. refl), ((refl, λ s. refl), ((refl, λ s. refl), ((refl, λ s. refl), ((refl, λ s. refl), tt)))))))))))
+    ((refl, λ s. refl), ((refl, λ s. refl), ((refl, λ s. refl), ((refl, λ s. refl), ((refl, λ s. refl), ((refl, λ s. refl), ((refl, λ s. refl), ((refl, λ s. refl), ((refl, λ s. refl), ((refl, λ s. refl), ((refl, λ s. refl), ((refl, λ s. refl), ((refl, λ s. refl), tt)))))))))))))
 
 -- ---- by theorems on longer runs
 -- the bench run

@@ -26,7 +26,7 @@ use Rattle.tables.specs.State.{State, at, capsOf, head}
 use Rattle.rules.specs.declared.Made.{Made}
 use Rattle.rules.specs.Aged.{timerPool}
 use Rattle.rules.specs.Agrees.{timerAt}
-use Rattle.rules.specs.Calls.{Out, armEntry, refusal, ruled, timerFor}
+use Rattle.rules.specs.Calls.{Out, armEntry, badInterval, refusal, ruled, timerFor}
 use Rattle.rules.specs.Calls.Shape.{anId}
 use Rattle.rules.specs.Good.{Good}
 use Rattle.rules.specs.Run.{step}
@@ -74,7 +74,7 @@ arms-another o k s id g given z e =
     let Same : Op → Type 0 = λ c. (number (step c k s .ans) ≡ 0) × (idTold (step c k s .ans) ≡ id) in
     ⊎-elim
     (λ x. let (a, b) = subst Same (x .1) (z, e) in another (x .0) 0 (ltb LONGEST (x .0)) k s id g given a b)
-    (λ x. let (a, b) = subst Same (x .1) (z, e) in another (x .0) (x .0) (eqb (x .0) 0 || ltb LONGEST (x .0)) k s id g given a b)
+    (λ x. let (a, b) = subst Same (x .1) (z, e) in another (x .0) (x .0) (badInterval (x .0)) k s id g given a b)
 
 -- ---- a metronome on buffers
 -- its id was given, and every timer of that id is on its beat
@@ -134,7 +134,7 @@ every-begins interval id l w p w₁ p₁ m h =
     let s = viewOf w p in
     let e = line-answer (every interval) w p (made 0 id) w₁ p₁ m (h .sound) in
     let first = l .time .clock + interval in
-    let f = arm-new interval interval (eqb interval 0 || ltb LONGEST interval) (capsOf w) s (good-view w p (h .sound)) (ap number (sym e)) in
+    let f = arm-new interval interval (badInterval interval) (capsOf w) s (good-view w p (h .sound)) (ap number (sym e)) in
     let new : at s TIMER-AGE (slotOf TIMER-FACTOR id) < ageOf TIMER-FACTOR id = subst (λ (i : ℕ). at s TIMER-AGE (slotOf TIMER-FACTOR i) < ageOf TIMER-FACTOR i) (ap idTold (sym e)) (f .0) in
     let P : Timer → Type 0 = λ t. t .id ≡ id → OnBeat first interval (l .time .clock) t in
     record {

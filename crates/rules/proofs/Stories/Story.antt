@@ -54,10 +54,12 @@ begun-kept z w p w₁ p₁ q = done-kept z w p (plain 0) w₁ p₁ q refl
 module _ (P : Ledger → State → Type 0)
     (leaves : (o : Op) (l : Ledger) (w p : List ℕ) (r : Answer) (w′ p′ : List ℕ) → Meets (op o) w p r w′ p′ → Kept l w p → P l (viewOf w p) → P (entered (line (op o) r) l) (viewOf w′ p′)) where
   -- a start that is refused leaves it too
-  line-lasts : (c : Call) (l : Ledger) (w p : List ℕ) (r : Answer) (w′ p′ : List ℕ) → begins (line c r) ≡ false → Meets c w p r w′ p′ → Kept l w p → P l (viewOf w p) → P (entered (line c r) l) (viewOf w′ p′)
+  refused-lasts : (z : Sizes) (l : Ledger) (w p : List ℕ) (r : Answer) (w′ p′ : List ℕ) → (number r ≡ 0 → ⊥) → Meets (start z) w p r w′ p′ → P l (viewOf w p) → P (entered (line (start z) r) l) (viewOf w′ p′)
   unfolding entered
-  line-lasts (start z) l w p r w′ p′ b = λ m x t.
-      let h = start-refused (capsFrom z) w p r w′ p′ m (eqb-false (number r) 0 b) in rw (h .0, h .1, h .2) t
+  refused-lasts z l w p r w′ p′ n m t = let h = start-refused (capsFrom z) w p r w′ p′ m n in rw (h .0, h .1, h .2) t
+
+  line-lasts : (c : Call) (l : Ledger) (w p : List ℕ) (r : Answer) (w′ p′ : List ℕ) → begins (line c r) ≡ false → Meets c w p r w′ p′ → Kept l w p → P l (viewOf w p) → P (entered (line c r) l) (viewOf w′ p′)
+  line-lasts (start z) l w p r w′ p′ b = λ m x t. refused-lasts z l w p r w′ p′ (eqb-false (number r) 0 b) m t
   line-lasts (op o) l w p r w′ p′ b = leaves o l w p r w′ p′
 
   -- THE LAW: so it lasts through any story in which nothing begins anew
@@ -68,3 +70,20 @@ module _ (P : Ledger → State → Type 0)
       let b : begins y ≡ false = not-true (begins y) (and-left (not (begins y)) (startless xs) n) in
       story-lasts (entered y l) s (and-right (not (begins y)) (startless xs) n) (line-kept (y .call) l w p (y .answer) w₁ p₁ m x)
       (line-lasts (y .call) l w p (y .answer) w₁ p₁ b m x t)
+
+  -- ---- what is always so: where a start that is done leaves it so as well
+  module _ (begun : (z : Sizes) (w p : List ℕ) (r : Answer) (w′ p′ : List ℕ) → Meets (start z) w p r w′ p′ → number r ≡ 0 → P (nothing z) (viewOf w′ p′)) where
+    line-always : (c : Call) (l : Ledger) (w p : List ℕ) (r : Answer) (w′ p′ : List ℕ) → Meets c w p r w′ p′ → Kept l w p → P l (viewOf w p) → P (entered (line c r) l) (viewOf w′ p′)
+    unfolding entered
+    line-always (start z) l w p r w′ p′ = λ m x t. elim (ℕ-discrete (number r) 0) [
+      | yes e ↦ rw e (begun z w p r w′ p′ m e)
+      | no n ↦ refused-lasts z l w p r w′ p′ n m t
+    ]
+    line-always (op o) l w p r w′ p′ = leaves o l w p r w′ p′
+
+    -- THE LAW: so it lasts through any story
+    pub story-always : {w p w′ p′ : List ℕ} {xs : List Line} (l : Ledger) → Story w p xs w′ p′ → Kept l w p → P l (viewOf w p) → P (reckon l xs) (viewOf w′ p′)
+    unfolding reckon
+    story-always l Story.over x t = t
+    story-always l (Story.then {w} {p} {w₁} {p₁} {x = y} m s) x t =
+        story-always (entered y l) s (line-kept (y .call) l w p (y .answer) w₁ p₁ m x) (line-always (y .call) l w p (y .answer) w₁ p₁ m x t)

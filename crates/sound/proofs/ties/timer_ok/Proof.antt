@@ -9,8 +9,8 @@ returns c = let a = c .before .args in timer-none (a .row .now) (a .owner) (a .a
 
 returns-2 : tie.Need-returns-2
 returns-2 c =
-    let a = c .before .before .args in
-    rw (c .lives .ensures) (timer-used (a .row .now) (a .owner) (a .age) (a .due) (a .interval) (c .before .if1 .left))
+    let a = c .before .before .before .args in
+    rw (c .before .lives .ensures, c .interval-ok .ensures) (timer-used (a .row .now) (a .owner) (a .age) (a .due) (a .interval) (c .before .before .if1 .left))
 
 pub timer-ok-spec : {M : Type 1} → statement M
-timer-ok-spec = tie.close (tie.spec returns (λ c κs. search needs) returns-2)
+timer-ok-spec = tie.close (tie.spec returns (λ c κs. search needs) (λ c κs. search needs) returns-2)
