@@ -8,10 +8,11 @@ use mir.Val.{SFits, ofZ}
 use lib.Signed.{ltZ, nonNeg}
 use lib.Dec.{T, eqb, ltb}
 use lib.IntN.{ℤ, pos, negsuc, natAbs}
-use borrow.Author.Tests.{eq-eqb, eqb-true, le-ltb, ltb-false, ne-eqb}
+use borrow.Author.Tests.{eq-eqb, eqb-true, le-ltb, ne-eqb}
 use Rattle.pools.proofs.BoolLaws.{same-bool, true-false}
 use Rattle.tables.specs.Limits.{LONGEST-WAIT}
 use Rattle.rules.specs.Calls.{badWait, deadlineAt, notAtAll}
+use Rattle.rules.proofs.Kept.Messages.{wait-fits}
 
 pub wait-zero : (z : ℤ) → SFits w64 z → eqb (ofZ w64 z) 0 ≡ notAtAll z
 wait-zero (pos n) f = refl
@@ -40,7 +41,7 @@ wait-from (pos n) h = tt
 wait-from (negsuc n) h = true-false true refl h
 
 pub wait-few : (z : ℤ) → ltZ z (pos 0) ≡ false → badWait z ≡ false → natAbs z ≤ LONGEST-WAIT
-wait-few (pos n) h b = ltb-false LONGEST-WAIT n b
+wait-few (pos n) h b = wait-fits n b
 wait-few (negsuc n) h b = true-false true refl h
 
 pub wait-deadline : (clock : ℕ) (z : ℤ) → ltZ z (pos 0) ≡ false → clock + 1000 * natAbs z ≡ deadlineAt clock z

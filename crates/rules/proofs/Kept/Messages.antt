@@ -501,11 +501,15 @@ legal-of sender class tag e =
       either .1,
     )
 
+-- a wait that is taken is no longer than a day
+pub wait-fits : (n : ℕ) → badWait (pos n) ≡ false → n ≤ LONGEST-WAIT
+wait-fits n b = ltb-false LONGEST-WAIT n b
+
 -- a deadline is later than the clock, and in range
 pub deadline-fits : (clock : ℕ) (wait : ℤ) → clock ≤ CLOCK-END → badWait wait ≡ false → notAtAll wait ≡ false → (deadlineAt clock wait ≡ 0 → ⊥) →
     (clock < deadlineAt clock wait) × (deadlineAt clock wait ≤ DEADLINE-END)
 deadline-fits clock (pos n) h b o z =
-    let l = ltb-false LONGEST-WAIT n b in
+    let l = wait-fits n b in
     let m = eqb-false n 0 o in
     (omega arith, omega arith)
 deadline-fits clock (negsuc n) h b o z = absurd (z refl)

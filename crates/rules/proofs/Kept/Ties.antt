@@ -79,12 +79,17 @@ armed-keeps delay interval bad d n k s g p =
 pub after-keeps : (delay : ℕ) → Keeps (after delay)
 after-keeps delay k s g p = armed-keeps delay 0 (ltb LONGEST delay) (ltb-false LONGEST delay (second-passed p)) interval-none k s g p
 
+-- an interval that is taken is in range
+pub interval-taken : (interval : ℕ) → badInterval interval ≡ false → (SHORTEST-INTERVAL ≤ interval) × (interval ≤ LONGEST)
+interval-taken interval h =
+    let (short, long) = neither (ltb interval SHORTEST-INTERVAL) (ltb LONGEST interval) h in
+    (ltb-false interval SHORTEST-INTERVAL short, ltb-false LONGEST interval long)
+
 -- a periodic one
 pub every-keeps : (interval : ℕ) → Keeps (every interval)
 every-keeps interval k s g p =
-    let (short, long) = neither (ltb interval SHORTEST-INTERVAL) (ltb LONGEST interval) (second-passed p) in
-    let h = ltb-false LONGEST interval long in
-    armed-keeps interval interval (badInterval interval) h (h, λ periodic. omega (arith, ltb-false interval SHORTEST-INTERVAL short)) k s g p
+    let (least, most) = interval-taken interval (second-passed p) in
+    armed-keeps interval interval (badInterval interval) most (most, λ periodic. omega (arith, least)) k s g p
 
 -- taking a timer back keeps a sound state sound
 pub cancel-keeps : (id : ℕ) → Keeps (cancel id)

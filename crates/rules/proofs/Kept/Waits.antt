@@ -9,7 +9,6 @@ use lib.IntN.{ℤ, pos, negsuc}
 use lib.ListN.{getD, length, set}
 use lib.Seq.{getD-set-same, set-out}
 use lib.Dec.{eqb, ltb}
-use borrow.Author.Tests.{ltb-false}
 use Rattle.ledger.specs.Call.Op.{advance, exit, notify, receive}
 use Rattle.pools.proofs.BoolLaws.{neither, split}
 use Rattle.tables.specs.declared.Caps.{Caps}
@@ -30,6 +29,7 @@ use Rattle.rules.proofs.Frames.Calls.{FIRED, beside-fireAll, beside-own
 use Rattle.rules.proofs.Frames.Pools.{use-ends}
 use Rattle.rules.proofs.Frames.Wrote.{Beside, apart, apart-at, beside-of, beside-over, beside-poke, beside-pull, beside-still, mem, wrote-none}
 use Rattle.rules.proofs.Guards.{second-passed}
+use Rattle.rules.proofs.Kept.Messages.{wait-fits}
 use Rattle.rules.proofs.Lists.Columns.{set-so}
 
 -- the columns that say how long waits are
@@ -147,7 +147,7 @@ notify-waits target tag payload k s p = daily-now (beside-of (wrote-post k s _ _
 
 -- "Positive waits above 86,400,000 .. become malformed": a wait that begins
 deadline-soon : (clock : ℕ) (wait : ℤ) → badWait wait ≡ false → deadlineAt clock wait ≤ clock + 1000 * LONGEST-WAIT
-deadline-soon clock (pos n) b = let l = ltb-false LONGEST-WAIT n b in omega arith
+deadline-soon clock (pos n) b = omega (arith, wait-fits n b)
 deadline-soon clock (negsuc n) b = omega arith
 
 pub receive-waits : (sender class tag : ℕ) (wait : ℤ) → Waits (receive sender class tag wait)
