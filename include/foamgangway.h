@@ -72,7 +72,7 @@ enum fg_number {
 #define FG_ANY_CLASS 15
 #define FG_ANY_TAG 134217727
 
-/* Waits of fg_receive; a positive one is in milliseconds. */
+/* Waits of fg_receive; a positive one is in milliseconds, at most FG_MAX_WAIT. */
 #define FG_WAIT_FOREVER (-1)
 #define FG_WAIT_NOT 0
 

@@ -46,7 +46,7 @@ fn legal(sender: u64, class: u64, tag: u64) -> bool
     (sender <= ANY_SENDER) & (((class <= 4) | (class == ANY_CLASS)) & (tag <= ANY_TAG))
 }
 
-// Is it no wait? -1 is one without end, 0 is none, and nobody waits longer than a day by a number.
+// Is it no wait? -1 is one without end, 0 is none; no other is longer than a day.
 fn bad_wait(wait: i64) -> bool
     ensures { λ r. ⌜ r ≡ badWait wait ⌝ }
 {

@@ -1,4 +1,4 @@
--- What the work of a call leaves alone, from the frame that it has: ages, of which none falls and only a call that begins a use raises one, and what is past the needed words and bytes.
+-- What the work of a call leaves alone, from the frame that it has: ages, of which none falls and only a call that begins a use raises one, what is past the needed words and bytes, and how long is waited.
 use Prim.Native.Nat.{ℕ, suc, _+_, _-_, _≤_}
 use native.Mathlib.Decide.{decLt}
 use native.Mathlib.Omega.{arith}
@@ -101,7 +101,7 @@ monitor-framed id = record {
 
 -- every other call: it writes neither ages nor what is past the needed words and bytes
 module _ (o : Op) {ws : List ℕ} (w : (k : Caps) (s : State) → Beside ws s (entry o .work k s .state)) where
-  -- but clock or deadlines
+  -- one that writes clock or deadlines has a law of its own on waits
   pub framed-with : Waits o → apart AGES ws && apart (REST ∷ PAST ∷ []) ws ≡ true → Framed o
   framed-with waits e = record {
     writes = ws;
@@ -111,7 +111,7 @@ module _ (o : Op) {ws : List ℕ} (w : (k : Caps) (s : State) → Beside ws s (e
     waits = waits;
   }
 
-  -- nor these
+  -- one that does not needs none
   pub framed : apart WAIT-TIMES ws && (apart AGES ws && apart (REST ∷ PAST ∷ []) ws) ≡ true → Framed o
   framed e =
       let others = apart AGES ws && apart (REST ∷ PAST ∷ []) ws in

@@ -43,25 +43,25 @@ pub interval-none : Holds (intervalRule 0)
 interval-none = (omega arith, λ n. absurd (n refl))
 
 module _ {k : Caps} {s : State} (g : Good k s) where
-  -- what holds of 0, and of every word that a column has, asks nothing of the place: past the column 0 is read
-  every-word : (P : ℕ → Type 0) → P 0 → (c : ℕ) → c < REST → ((i : ℕ) → i < size k c → P (at s c i)) → (i : ℕ) → P (at s c i)
-  every-word P none c h f i =
+  -- what is so of 0, and of every word that a column has, asks nothing of the place: past the column 0 is read
+  every-so : (P : ℕ → Type 0) → P 0 → (c : ℕ) → c < REST → ((i : ℕ) → i < size k c → P (at s c i)) → (i : ℕ) → P (at s c i)
+  every-so P none c h f i =
       split (ltb i (size k c))
       (λ q. f i (ltb-true i (size k c) q))
       (λ q. let z : at s c i ≡ 0 = List·getD-eq-default (s c) 0 {n = i} (omega (arith, g .sized .words c h, ltb-false i (size k c) q)) in subst P (sym z) none)
 
-  -- so it is where a word is 0 unless it is used
-  used-word : (P : ℕ → Type 0) → P 0 → (c : ℕ) → c < REST → (idle : ℕ → Bool) → ((i : ℕ) → i < size k c → idle i ≡ true → at s c i ≡ 0)
+  -- nor where a word is 0 unless it is used
+  used-so : (P : ℕ → Type 0) → P 0 → (c : ℕ) → c < REST → (idle : ℕ → Bool) → ((i : ℕ) → i < size k c → idle i ≡ true → at s c i ≡ 0)
       → ((i : ℕ) → i < size k c → idle i ≡ false → P (at s c i)) → (i : ℕ) → P (at s c i)
-  used-word P none c h idle z f = every-word P none c h (λ i l. split (idle i) (λ q. subst P (sym (z i l q)) none) (f i l))
+  used-so P none c h idle z f = every-so P none c h (λ i l. split (idle i) (λ q. subst P (sym (z i l q)) none) (f i l))
 
-  -- both for a bound
-  every-fits : (c n : ℕ) → c < REST → ((i : ℕ) → i < size k c → at s c i ≤ n) → (i : ℕ) → at s c i ≤ n
-  every-fits c n = every-word (λ (x : ℕ). x ≤ n) (omega arith) c
+  -- so a bound on a word asks nothing of its place
+  every-word : (c n : ℕ) → c < REST → ((i : ℕ) → i < size k c → at s c i ≤ n) → (i : ℕ) → at s c i ≤ n
+  every-word c n = every-so (λ (x : ℕ). x ≤ n) (omega arith) c
 
-  used-fits : (c n : ℕ) → c < REST → (idle : ℕ → Bool) → ((i : ℕ) → i < size k c → idle i ≡ true → at s c i ≡ 0)
+  used-word : (c n : ℕ) → c < REST → (idle : ℕ → Bool) → ((i : ℕ) → i < size k c → idle i ≡ true → at s c i ≡ 0)
       → ((i : ℕ) → i < size k c → idle i ≡ false → at s c i ≤ n) → (i : ℕ) → at s c i ≤ n
-  used-fits c n = used-word (λ (x : ℕ). x ≤ n) (omega arith) c
+  used-word c n = used-so (λ (x : ℕ). x ≤ n) (omega arith) c
 
   -- a word that is written is read back
   pub read-back : (c i v : ℕ) → T (ltb c REST) → i < size k c → getD (set (s c) i v) i 0 ≡ v
@@ -111,11 +111,11 @@ module _ {k : Caps} {s : State} (g : Good k s) where
 
   -- ---- actorRule: the words of an actor are in range
   pub age-fits : (a : ℕ) → at s AGE a ≤ OLDEST
-  age-fits = every-fits AGE OLDEST (omega arith) (λ a l. g .actors a l .1 .0 .0)
+  age-fits = every-word AGE OLDEST (omega arith) (λ a l. g .actors a l .1 .0 .0)
 
   -- a hand names a data entry
   pub hand-fits : (a : ℕ) → at s HAND a ≤ k .datas
-  hand-fits = every-fits HAND (k .datas) (omega arith) (λ a l. g .actors a l .1 .1)
+  hand-fits = every-word HAND (k .datas) (omega arith) (λ a l. g .actors a l .1 .1)
 
   -- ---- idleRule: what an actor does not use is 0
   -- the three words of its filter and its deadline, where it does not wait
@@ -129,7 +129,7 @@ module _ {k : Caps} {s : State} (g : Good k s) where
   -- ---- waitRule: a deadline is in range
   pub deadline-fits : (a : ℕ) → at s DEADLINE a ≤ DEADLINE-END
   deadline-fits =
-      used-fits DEADLINE DEADLINE-END (omega arith) (λ a. eqb (at s DEADLINE a) 0) (λ a l q. eqb-true _ _ q) (λ a l q. g .waits a l .1 .1 (eqb-false _ _ q) .1)
+      used-word DEADLINE DEADLINE-END (omega arith) (λ a. eqb (at s DEADLINE a) 0) (λ a l q. eqb-true _ _ q) (λ a l q. g .waits a l .1 .1 (eqb-false _ _ q) .1)
 
   -- ---- listRule: who is queued has one of the slots
   pub queued-fits : (i : ℕ) → i < head s QUEUED → at s QUEUE i < k .actors
@@ -141,12 +141,12 @@ module _ {k : Caps} {s : State} (g : Good k s) where
 
   -- it names a data entry
   pub mail-fits : (e : ℕ) → at s MAIL-DATA e ≤ k .datas
-  mail-fits = used-fits MAIL-DATA (k .datas) (omega arith) (free (s MAIL-FREE)) (λ e l q. g .mails e l .0 q .1) (λ e l q. g .mails e l .1 (rw q) .1 .1)
+  mail-fits = used-word MAIL-DATA (k .datas) (omega arith) (free (s MAIL-FREE)) (λ e l q. g .mails e l .0 q .1) (λ e l q. g .mails e l .1 (rw q) .1 .1)
 
   -- ---- dataRule: "Payloads are 0 to 252 bytes"
   pub length-fits : (d : ℕ) → at s LENGTH d ≤ PAYLOAD-MOST
   length-fits =
-      used-fits LENGTH PAYLOAD-MOST (omega arith) (free (s DATA-FREE)) (λ d l q. g .datas d l .0 q .0 .1)
+      used-word LENGTH PAYLOAD-MOST (omega arith) (free (s DATA-FREE)) (λ d l q. g .datas d l .0 q .0 .1)
       (λ d l q. split (eqb (at s VALUE-BUS d) 0) (λ z. g .datas d l .1 (rw q) .0 (eqb-true _ _ z) .0 .1 .0) (λ z. g .datas d l .1 (rw q) .1 (eqb-false _ _ z) .1 .0))
 
   -- ---- linkRule
@@ -155,27 +155,27 @@ module _ {k : Caps} {s : State} (g : Good k s) where
 
   -- ---- monitorRule
   pub monitor-age-fits : (i : ℕ) → at s MONITOR-AGE i ≤ OLDEST
-  monitor-age-fits = every-fits MONITOR-AGE OLDEST (omega arith) (λ i l. g .monitors i l .0 .0)
+  monitor-age-fits = every-word MONITOR-AGE OLDEST (omega arith) (λ i l. g .monitors i l .0 .0)
 
   pub monitor-ends : (i : ℕ) → i < k .monitors → (at s WATCHER i ≡ 0 → ⊥) → Ends (s STATE) (at s WATCHER i) (at s WATCHED i)
   monitor-ends i l n = ends-of (s STATE) (at s WATCHER i) (at s WATCHED i) (g .monitors i l .1 .1 n)
 
   -- ---- timerRule
   pub timer-age-fits : (i : ℕ) → at s TIMER-AGE i ≤ OLDEST
-  timer-age-fits = every-fits TIMER-AGE OLDEST (omega arith) (λ i l. g .timers i l .0 .0)
+  timer-age-fits = every-word TIMER-AGE OLDEST (omega arith) (λ i l. g .timers i l .0 .0)
 
   pub timer-owner-lives : (i : ℕ) → i < k .timers → (at s TIMER-OWNER i ≡ 0 → ⊥) → alive (s STATE) (at s TIMER-OWNER i - 1) ≡ true
   timer-owner-lives i l n = g .timers i l .1 .1 n .0
 
   pub due-fits : (i : ℕ) → at s DUE i ≤ DUE-END
   due-fits =
-      used-fits DUE DUE-END (omega arith) (unused (s TIMER-OWNER))
+      used-word DUE DUE-END (omega arith) (unused (s TIMER-OWNER))
       (λ i l q. g .timers i l .1 .0 (eqb-true _ _ q) .0) (λ i l q. g .timers i l .1 .1 (eqb-false _ _ q) .1 .0)
 
   -- an interval is 0, a one-shot's, or in range
   pub interval-right : (i : ℕ) → Holds (intervalRule (at s INTERVAL i))
   interval-right =
-      used-word (λ (x : ℕ). Holds (intervalRule x)) interval-none INTERVAL (omega arith) (unused (s TIMER-OWNER))
+      used-so (λ (x : ℕ). Holds (intervalRule x)) interval-none INTERVAL (omega arith) (unused (s TIMER-OWNER))
       (λ i l q. g .timers i l .1 .0 (eqb-true _ _ q) .1) (λ i l q. g .timers i l .1 .1 (eqb-false _ _ q) .1 .1)
 
   pub interval-fits : (i : ℕ) → at s INTERVAL i ≤ LONGEST
@@ -183,7 +183,7 @@ module _ {k : Caps} {s : State} (g : Good k s) where
 
   -- ---- busRule: the settings of a bus are in range, made or not
   setting-fits : (c most b : ℕ) → c < REST → size k c ≡ MOST-BUSES → ((b : ℕ) → b < MOST-BUSES → at s c b ≤ most) → at s c b ≤ most
-  setting-fits c most b h e f = every-fits c most h (λ i l. f i (rw e at l)) b
+  setting-fits c most b h e f = every-word c most h (λ i l. f i (rw e at l)) b
 
   pub seats-fit : (b : ℕ) → at s BUS-SEATS b ≤ MOST-SEATS
   seats-fit b =
@@ -217,7 +217,7 @@ module _ {k : Caps} {s : State} (g : Good k s) where
   -- ---- issueRule, issuedRule and valueRule
   pub issue-fits : (i : ℕ) → at s ISSUE i ≤ k .datas
   issue-fits =
-      used-fits ISSUE (k .datas) (omega arith) (λ i. not (ltb i (head s ISSUED))) (λ i l q. g .issues i l .1 (ltb-false _ _ (not-true _ q)))
+      used-word ISSUE (k .datas) (omega arith) (λ i. not (ltb i (head s ISSUED))) (λ i l q. g .issues i l .1 (ltb-false _ _ (not-true _ q)))
       (λ i l q. g .issues i l .0 (ltb-true _ _ (not-false _ q)) .1)
 
   pub issue-some : (i : ℕ) → i < head s ISSUED → 1 ≤ at s ISSUE i
@@ -226,7 +226,7 @@ module _ {k : Caps} {s : State} (g : Good k s) where
   -- a value was published at or before the clock; 0 where there is none
   pub published-fits : (d : ℕ) → at s PUBLISHED d ≤ head s CLOCK
   published-fits =
-      used-fits PUBLISHED (head s CLOCK) (omega arith) (unused (s VALUE-BUS))
+      used-word PUBLISHED (head s CLOCK) (omega arith) (unused (s VALUE-BUS))
       (λ d l q. g .values d l .0 (eqb-true _ _ q) .1) (λ d l q. g .values d l .1 (eqb-false _ _ q) .0 .1)
 
   -- ---- THE LAWS of other states: what asks that somebody lives is so there too, where those whom it names live

@@ -6,7 +6,7 @@ use mathlib.Core.Path.{_≡_, refl}
 use mathlib.Core.Bool.{false, true, not, _&&_}
 use mathlib.Core.List.{List, [], _∷_, _++_}
 use lib.IntN.{ℤ, pos, negsuc}
-use lib.ListN.{getD, length, set}
+use lib.ListN.{length}
 use lib.Seq.{getD-set-same, set-out}
 use lib.Dec.{eqb, ltb}
 use Rattle.ledger.specs.Call.Op.{advance, exit, notify, receive}
@@ -19,7 +19,7 @@ use Rattle.rules.specs.Actions.{dataFor, enlist, fill, hasRoom, hears, l
 use Rattle.rules.specs.Aged.{actorPool, monitorPool, timerPool}
 use Rattle.rules.specs.Buses.{aired}
 use Rattle.rules.specs.Calls.{Fired, Told, await, badWait, cutLink, cutLinks, cutMonitor, cutMonitors, deadlineAt, depart, fire, fireAll, fireNext, fired, firstMatch}
-use Rattle.rules.specs.Calls.{handOver, linkOf, loosen, nextDue, nextOverdue, notAtAll, placeOf, rearm, receiveBare, rouse, tell, tie, unqueue, unwatch, vacate}
+use Rattle.rules.specs.Calls.{handOver, linkOf, loosen, nextDue, nextOverdue, notAtAll, placeOf, rearm, receiveBare, rouse, tell, unqueue, vacate}
 use Rattle.rules.specs.Terms.{MESSAGE, RUNNABLE, TIMEOUT, legal, runner}
 use Rattle.rules.proofs.Claims.{Daily, Waits}
 use Rattle.rules.proofs.Ends.Departs.{beside-depart}

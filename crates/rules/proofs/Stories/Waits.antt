@@ -1,5 +1,5 @@
 -- After any story whoever waits, but for ever, waits a day at most.
-use Prim.Native.Nat.{ℕ, _+_, _*_, _≤_}
+use Prim.Native.Nat.{ℕ}
 use native.Mathlib.Omega.{arith}
 use mathlib.Core.Path.{_≡_, refl}
 use mathlib.Core.List.{List}
@@ -7,8 +7,7 @@ use Rattle.ledger.specs.Call.{Answer, Line, Op, Sizes, number}
 use Rattle.ledger.specs.Call.Answer.{plain}
 use Rattle.ledger.specs.Call.Call.{start, op}
 use Rattle.ledger.specs.Ledger.{Ledger, nothing}
-use Rattle.tables.specs.Columns.{DEADLINE}
-use Rattle.tables.specs.State.{at, capsOf, view}
+use Rattle.tables.specs.State.{capsOf, view}
 use Rattle.rules.specs.Sound.{viewOf}
 use Rattle.rules.specs.Run.{seven, step}
 use Rattle.rules.specs.Story.{Kept, Meets, Story, capsFrom}
