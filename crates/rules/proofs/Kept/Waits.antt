@@ -50,11 +50,12 @@ module _ {time : ℕ} where
   unfolding unwait poke with-col
   before-unwait s a h b = set-so (λ (x : ℕ). x ≤ time) (s DEADLINE) a 0 b (omega arith) (h b)
 
-  -- and a wait begins
+  -- a wait begins that ends by then
   before-await : (s : State) (a sender class tag deadline : ℕ) → deadline ≤ time → Before time s → Before time (await s a sender class tag deadline)
   unfolding await poke with-col
   before-await s a sender class tag deadline l h b = set-so (λ (x : ℕ). x ≤ time) (s DEADLINE) a deadline b l (h b)
 
+  -- a waiting actor becomes runnable
   before-wake : (s : State) (a reason : ℕ) → Before time s → Before time (wake s a reason)
   before-wake s a reason h = before-beside (beside-of (wrote-ready (wrote-none (unwait s a)) a reason)) refl (before-unwait s a h)
 
@@ -72,6 +73,7 @@ module _ {time : ℕ} where
   unfolding tell
   before-tell k t a me reason monitor h = split (hasRoom k (t .state)) (λ q. rw q (before-post k (t .state) a me _ _ h)) (λ q. rw q h)
 
+  -- its links end, each with its notice
   before-cutLinks : (k : Caps) (a me reason b : ℕ) (t : Told) → Before time (t .state) → Before time (cutLinks k a me reason b t .state)
   unfolding cutLinks cutLink
   before-cutLinks k a me reason zero t h = h
@@ -81,6 +83,7 @@ module _ {time : ℕ} where
       split (ltb (linkOf k u (suc a) (suc b)) (k .links))
       (λ q. rw q (before-tell k _ b me reason 0 (before-beside (beside-of (wrote-tie (wrote-none u) _ 0 0)) refl below))) (λ q. rw q below)
 
+  -- so do the monitors on it
   before-cutMonitors : (k : Caps) (a me reason i : ℕ) (t : Told) → Before time (t .state) → Before time (cutMonitors k a me reason i t .state)
   unfolding cutMonitors cutMonitor
   before-cutMonitors k a me reason zero t h = h
@@ -100,18 +103,20 @@ module _ {time : ℕ} where
       (λ q. rw (r, q) (before-beside (beside-poke (beside-pull (beside-still [] s) QUEUE QUEUED (placeOf s a)) REASON a 0) refl h))
       (λ q. rw (r, q) (before-unwait s a h))))
 
+  -- step by step, and then its slot
   before-depart : (k : Caps) (a reason : ℕ) (s : State) → Before time s → Before time (depart k a reason s .state)
   unfolding depart
   before-depart k a reason s h =
       before-vacate _ a
       (before-beside (beside-of (wrote-leaveBuses k a _ _)) refl
-      (before-beside (beside-own timerPool a (k .timers) _) refl
-      (before-beside (beside-own monitorPool a (k .monitors) _) refl
-      (before-cutMonitors k a _ reason (k .monitors) _
-      (before-cutLinks k a _ reason (k .actors) _
+      (before-beside (beside-own timerPool a _ _) refl
+      (before-beside (beside-own monitorPool a _ _) refl
+      (before-cutMonitors k a _ reason _ _
+      (before-cutLinks k a _ reason _ _
       (before-beside (beside-emptied s a) refl h))))))
 
   -- ---- time passes
+  -- timers fire
   before-fireAll : (k : Caps) (m : ℕ) (f : Fired) → Before time (f .state) → Before time (fireAll k m f .state)
   unfolding fireAll fire
   before-fireAll k zero f h = h
@@ -119,13 +124,14 @@ module _ {time : ℕ} where
       split (not (eqb (nextDue k (f .state)) 0) && hasRoom k (f .state))
       (λ q. rw q (before-fireAll k m (fireNext k f) (before-post k (rearm (f .state) _) _ 0 _ _ (before-beside (beside-of (wrote-rearm (f .state) _)) refl h)))) (λ q. rw q h)
 
+  -- waits are over
   before-rouse : (k : Caps) (m : ℕ) (s : State) → Before time s → Before time (rouse k m s)
   unfolding rouse
   before-rouse k zero s h = h
   before-rouse k (suc m) s h = split (eqb (nextOverdue k s) 0) (λ q. rw q h) (λ q. rw q (before-rouse k m _ (before-wake s _ TIMEOUT h)))
 
 -- ---- within a day
--- from now on
+-- a day from now
 abbrev tomorrow : State → ℕ
 tomorrow s = head s CLOCK + 1000 * LONGEST-WAIT
 
@@ -141,7 +147,8 @@ daily-now {s = s} {t} w e = let q : head t CLOCK ≡ head s CLOCK = rw (w .cols 
 pub daily-still : {ws : List ℕ} {s t : State} → Beside ws s t → apart WAIT-TIMES ws ≡ true → Daily s → Daily t
 daily-still {ws} w e = daily-now w (apart-at WAIT-TIMES ws e CLOCK refl) (before-beside w (apart-at WAIT-TIMES ws e DEADLINE refl))
 
--- ---- the calls that write them
+-- ---- the calls that write clock or deadlines
+-- a message may end a wait
 pub notify-waits : (target tag : ℕ) (payload : List ℕ) → Waits (notify target tag payload)
 notify-waits target tag payload k s p = daily-now (beside-of (wrote-post k s _ _ _ payload)) refl (before-post k s _ _ _ payload)
 
@@ -150,6 +157,7 @@ deadline-soon : (clock : ℕ) (wait : ℤ) → badWait wait ≡ false → deadli
 deadline-soon clock (pos n) b = omega (arith, wait-fits n b)
 deadline-soon clock (negsuc n) b = omega arith
 
+-- receive begins it where no message matches
 pub receive-waits : (sender class tag : ℕ) (wait : ℤ) → Waits (receive sender class tag wait)
 unfolding receiveBare handOver
 receive-waits sender class tag wait k s p = daily-now (beside-receive sender class tag wait k s) refl (λ h.
@@ -162,6 +170,7 @@ receive-waits sender class tag wait k s p = daily-now (beside-receive sender cla
     split (ltb (firstMatch u a sender class tag) (head u ARRIVED)) (λ q. rw q (before-beside (beside-poke (beside-delist u _) HAND a _) refl g))
     (λ q. split (notAtAll wait) (λ z. rw (q, z) g) (λ z. rw (q, z) (before-await u a sender class tag _ (omega (arith, now, l)) g))))
 
+-- the notices of an exit may end waits, and whoever ends waits no more
 pub exit-waits : (reason : ℕ) → Waits (exit reason)
 exit-waits reason k s p = daily-now (beside-depart k (runner s - 1) reason s) refl (before-depart k (runner s - 1) reason s)
 
@@ -175,6 +184,7 @@ clock-forward s micros =
       | no h ↦ rw (set-out (s CLOCK) 0 (c + micros) (omega arith)) (omega arith)
     ]
 
+-- an advance raises the clock first, and then ends waits only
 pub advance-waits : (micros : ℕ) → Waits (advance micros)
 advance-waits micros k s p =
     daily-later s (aired roused) forward (λ h.
