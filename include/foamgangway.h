@@ -157,8 +157,9 @@ uint64_t fg_yield(FG_BUFFERS);
 uint64_t fg_notify(FG_BUFFERS, uint64_t target, uint64_t tag, const uint8_t *payload, size_t payload_len);
 
 /* Releases the caller's hand, then takes the oldest message that the filter matches into it; without one the
- * caller waits: -1 for ever, 0 not at all, else so many milliseconds. More than FG_MAX_WAIT is FG_MALFORMED: whoever passes
- * microseconds by mistake is told so, and does not wait for weeks. Woken, it calls fg_receive again. */
+ * caller waits: -1 for ever, 0 not at all, else so many milliseconds. More than FG_MAX_WAIT, a day, is FG_MALFORMED. So of
+ * waits that are passed in microseconds by mistake those above 86.4 seconds are refused; a shorter one is taken, and lasts a
+ * thousand times as long as was meant, a day at most. Woken, it calls fg_receive again. */
 struct fg_received fg_receive(FG_BUFFERS, uint64_t sender, uint64_t class_, uint64_t tag, int64_t wait);
 
 /* Where in the payload area the payload in hand lies; FG_UNKNOWN with nothing in hand. */
@@ -167,9 +168,10 @@ struct fg_place fg_shown(FG_BUFFERS);
 /* Arms a timer that ticks once, after so many microseconds, and answers its id. */
 struct fg_made fg_after(FG_BUFFERS, uint64_t delay);
 
-/* Arms a timer that ticks every so many microseconds and answers its id. Less than FG_MIN_INTERVAL is FG_MALFORMED: whoever
- * passes milliseconds by mistake is told so. It keeps its beat: however late fg_advance is called, it is due whole intervals
- * after it was armed. Beats that were missed meanwhile give one tick. */
+/* Arms a timer that ticks every so many microseconds and answers its id. Less than FG_MIN_INTERVAL is FG_MALFORMED. So of
+ * intervals that are passed in milliseconds by mistake those below 100 ms are refused; a longer one is taken. It keeps its
+ * beat: however late fg_advance is called, it is due whole intervals after it was armed. Beats that were missed meanwhile give
+ * one tick. */
 struct fg_made fg_every(FG_BUFFERS, uint64_t interval);
 
 /* Ends a timer of the caller; ticks already queued stay. */

@@ -15,7 +15,7 @@ enum { ACTORS = 1, MAILBOXES = 2, DATA = 2, LINKS = 0, MONITORS = 0, TIMERS = 1 
 
 enum { BEAT_US = 10000, STROKES = 8 };
 
-/* The header's limits hold before the box runs: a beat in the wrong unit is not even compiled. */
+/* The header's limits hold before the box runs: with 10, the beat in milliseconds, this is not even compiled. */
 _Static_assert(FG_MIN_INTERVAL <= BEAT_US && BEAT_US <= FG_MAX_STEP, "a beat is in microseconds");
 
 /* How long each stroke takes. */

@@ -170,7 +170,7 @@ module _ (z : Sizes) {w p w₁ p₁ w₂ p₂ : List ℕ} {xs : List Line} (bega
   pub waits-end : (a : ℕ) → at (viewOf w₂ p₂) DEADLINE a ≤ head (viewOf w₂ p₂) CLOCK + 1000 * LONGEST-WAIT
   waits-end = story-daily z began story
 
-  -- no two beats of a metronome are nearer than 100 µs; 0 is no metronome's interval
+  -- the interval of a metronome is at least 100 µs, so that no two of its beats (`never-drifts`) are nearer; 0 is a one-shot's
   pub beats-apart : (i : ℕ) → (at (viewOf w₂ p₂) INTERVAL i ≡ 0 → ⊥) → SHORTEST-INTERVAL ≤ at (viewOf w₂ p₂) INTERVAL i
   beats-apart i = interval-right (good-view w₂ p₂ (demand-three .sound)) i .1
 

@@ -1,4 +1,4 @@
--- Soundness, and that what the calls do keeps it.
+-- Soundness, and that what the calls do keeps it; and that nobody waits longer than a day.
 pub mod Buses
 pub mod Clauses
 pub mod Clock
