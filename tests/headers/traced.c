@@ -40,16 +40,16 @@ static void first_runs(struct fg_tracer tracer)
 {
     fg_traced_next(BOX);
     fg_traced_next(BOX);
-    fg_traced_link(BOX, 65);
-    fg_traced_unlink(BOX, 65);
-    fg_traced_unlink(BOX, 65);
-    fg_traced_monitor(BOX, 65);
+    fg_traced_link(BOX, 257);
+    fg_traced_unlink(BOX, 257);
+    fg_traced_unlink(BOX, 257);
+    fg_traced_monitor(BOX, 257);
     fg_traced_demonitor(BOX, 128);
-    fg_traced_link(BOX, 65);
+    fg_traced_link(BOX, 257);
     fg_traced_every(BOX, 1000);
     fg_traced_cancel(BOX, 64);
     fg_traced_after(BOX, 1000);
-    fg_traced_notify(BOX, 65, 7, abc, sizeof abc);
+    fg_traced_notify(BOX, 257, 7, abc, sizeof abc);
     fg_traced_yield(BOX);
 }
 

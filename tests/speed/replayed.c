@@ -13,7 +13,7 @@
 #include "foamgangway_trace.h"
 
 enum { ROUNDS = 2000, MOST_RECORDS = 6 * ROUNDS + 3, TRIES = 7 };
-enum { WORDS = 6144, BYTES = 65536 };
+enum { WORDS = 8192, BYTES = 65536 };
 
 struct box { const char *name; uint64_t actors, mailboxes, data, links, monitors, timers; };
 

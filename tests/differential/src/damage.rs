@@ -207,7 +207,6 @@ impl Table<'_> {
     }
 
     fn waiting(&mut self, i: usize) {
-        self.word("filter's sender too large", WANT_SENDER, i, ANY_SENDER + 1);
         self.word("filter's tag too large", WANT_TAG, i, ANY_TAG + 1);
         for class in [5, 14, 16, u64::MAX] {
             self.word("filter's class not legal", WANT_CLASS, i, class);
@@ -257,6 +256,10 @@ impl Table<'_> {
         for i in 0..self.caps[2] as usize {
             self.word("length above 252", LENGTH, i, 253);
             self.word("sender too large", SENDER, i, (MAX_AGE + 1) * ACTOR_FACTOR);
+            self.word("sender too large", SENDER, i, ANY_SENDER);
+            if self.caps[0] < ACTOR_FACTOR {
+                self.word("sender past the actors", SENDER, i, ACTOR_FACTOR + self.caps[0]);
+            }
             let value = self.state.values.iter().find(|value| value.data == i).cloned();
             match (self.state.data.get(i).cloned(), value) {
                 (None, _) => self.free_data(i),
@@ -376,7 +379,7 @@ impl Table<'_> {
     }
 
     fn free_data(&mut self, i: usize) {
-        self.word("word of a free data entry", SENDER, i, 64);
+        self.word("word of a free data entry", SENDER, i, ACTOR_FACTOR);
         self.word("word of a free data entry", LENGTH, i, 1);
         self.no_value(i);
         for offset in [0, 3, 4, 100, 255] {
@@ -388,21 +391,26 @@ impl Table<'_> {
         self.word("sender of age 0", SENDER, i, 1);
         if class != TIMER {
             self.word("no sender", SENDER, i, 0);
-        } else {
-            self.word("length that is not the record's", LENGTH, i, 9);
         }
         if sender != 0 {
             let slot = (sender % ACTOR_FACTOR) as usize;
             let age = self.state.actors.slots[slot].age;
             self.word("sender older than its slot", SENDER, i, sender % ACTOR_FACTOR + ACTOR_FACTOR * (age + 1));
         }
-        if class == EXIT {
-            self.word("length that is not the record's", LENGTH, i, 15);
+        if class == TIMER || class == EXIT {
+            self.record_lengths(i, length as u64);
         }
         for top in [0x10, 0x18, 0x28, 0x30, 0x40, 0x50, 0xf8, 0x08] {
             self.byte("header's class or bit 27", 256 * i + 3, top);
         }
         self.bytes_past(i, length);
+    }
+
+    /// Those of the other records, of either edition, and those beside its own.
+    fn record_lengths(&mut self, i: usize, length: u64) {
+        for other in [8, 12, 14, 22, length - 1, length + 1] {
+            self.word("length that is not the record's", LENGTH, i, other);
+        }
     }
 
     fn bytes_past(&mut self, i: usize, length: usize) {

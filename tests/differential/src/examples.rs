@@ -4,7 +4,7 @@ use crate::call::{Answer, Call, Written};
 use crate::compare::{make, Buffers, Difference};
 use crate::ffi;
 use model::limits::*;
-use model::{Advanced, Copied, Ended, ExitRead, Made, Model, Received, TickRead, Turn};
+use model::{Advanced, Copied, Ended, ExitRead, Made, Model, OldTickRead, Received, TickRead, Turn};
 use model::{DONE, MALFORMED, NOTHING, NO_ROOM, WAITING};
 
 /// A runtime that is led through an example.
@@ -20,7 +20,7 @@ type Checked = Result<(), Difference>;
 impl Bench {
     /// From a payload area of 65,536 zero bytes and a long zero table.
     fn start(name: &'static str, caps: Capacities) -> Result<Self, Difference> {
-        let buffers = Buffers { words: vec![0; 6_144], bytes: vec![0; 65_536] };
+        let buffers = Buffers { words: vec![0; 8_192], bytes: vec![0; 65_536] };
         let mut bench = Bench { name, step: 0, buffers, model: Model::unsound() };
         bench.expect(Call::Start(caps), Answer::Number(DONE))?;
         Ok(bench)
@@ -30,9 +30,9 @@ impl Bench {
     fn running(name: &'static str, caps: Capacities, actors: u64) -> Result<Self, Difference> {
         let mut bench = Bench::start(name, caps)?;
         for i in 0..actors {
-            bench.expect(Call::Spawn(1), made(64 + i))?;
+            bench.expect(Call::Spawn(1), made(256 + i))?;
         }
-        bench.expect(Call::Next, turn(64))?;
+        bench.expect(Call::Next, turn(256))?;
         Ok(bench)
     }
 
@@ -122,6 +122,9 @@ pub fn compare_examples() -> Checked {
     limits()?;
     waits_and_intervals()?;
     bench_run()?;
+    many_actors()?;
+    twins()?;
+    both_editions()?;
     no_history()?;
     oldest_evicted()
 }
@@ -129,39 +132,39 @@ pub fn compare_examples() -> Checked {
 fn ids() -> Checked {
     let mut bench = Bench::running("ids", LARGEST, 2)?;
     bench.expect(Call::Exit(65_532), ended(0, 0))?;
-    bench.expect(Call::Spawn(1), made(128))
+    bench.expect(Call::Spawn(1), made(512))
 }
 
 fn headers_and_tick() -> Checked {
     let mut bench = Bench::running("headers", LARGEST, 2)?;
-    bench.expect(notify(65, 5, 0), Answer::Number(DONE))?;
+    bench.expect(notify(257, 5, 0), Answer::Number(DONE))?;
     bench.expect(Call::After(0), made(64))?;
     bench.expect(Call::Advance(0), Answer::Advanced(Advanced { no: DONE, fired: 1 }))?;
     bench.same("notify header", &bench.buffers.bytes[..4], &[0x05, 0, 0, 0])?;
     bench.same("tick header", &bench.buffers.bytes[256..260], &[0, 0, 0, 0x38])?;
-    bench.expect(receive_any(0), received(0, TIMER, 0, 8))?;
+    bench.expect(receive_any(0), received(0, TIMER, 0, 12))?;
     let tick = bench.in_hand();
-    bench.same("tick", &tick[..], &[0x06, 0, 0x01, 0, 0x40, 0, 0, 0])?;
-    bench.same("read_tick", ffi::read_tick(&tick), TickRead { no: DONE, id: 64 })?;
-    bench.expect(Call::Link(65), Answer::Number(DONE))?;
+    bench.same("tick", &tick[..], &[0x0A, 0, 0x03, 0, 0x40, 0, 0, 0, 0, 0, 0, 0])?;
+    bench.same("read_tick", ffi::read_tick(&tick), TickRead { no: DONE, kind: 3, id: 64 })?;
+    bench.expect(Call::Link(257), Answer::Number(DONE))?;
     bench.expect(Call::Exit(65_533), ended(1, 0))?;
     bench.same("exit header", &bench.buffers.bytes[256..260], &[0, 0, 0, 0x48])
 }
 
 fn one_mailbox() -> Checked {
     let mut bench = Bench::running("one mailbox, one data entry", [1, 1, 1, 0, 0, 0], 1)?;
-    bench.expect(notify(64, 0, 3), Answer::Number(DONE))?;
-    bench.expect(receive_any(0), received(64, NOTIFY, 0, 3))?;
-    bench.expect(notify(64, 0, 3), Answer::Number(NO_ROOM))?;
+    bench.expect(notify(256, 0, 3), Answer::Number(DONE))?;
+    bench.expect(receive_any(0), received(256, NOTIFY, 0, 3))?;
+    bench.expect(notify(256, 0, 3), Answer::Number(NO_ROOM))?;
     bench.expect(receive_any(0), nothing_received(NOTHING))?;
-    bench.expect(notify(64, 0, 3), Answer::Number(DONE))
+    bench.expect(notify(256, 0, 3), Answer::Number(DONE))
 }
 
 fn notice_lost() -> Checked {
     let mut bench = Bench::running("one notice sent, one lost", [3, 1, 1, 2, 0, 0], 3)?;
-    bench.expect(Call::Link(65), Answer::Number(DONE))?;
-    bench.expect(Call::Link(66), Answer::Number(DONE))?;
-    bench.expect(notify(64, 0, 0), Answer::Number(DONE))?;
+    bench.expect(Call::Link(257), Answer::Number(DONE))?;
+    bench.expect(Call::Link(258), Answer::Number(DONE))?;
+    bench.expect(notify(256, 0, 0), Answer::Number(DONE))?;
     bench.expect(Call::Exit(65_532), ended(1, 1))
 }
 
@@ -179,13 +182,13 @@ fn sleeps() -> Checked {
 /// A timer armed at 0 with 10,000 that fires 3,000 late is next due at 20,000, and the beats of 30,000 and 40,000 give one tick.
 fn metronome() -> Checked {
     let mut bench = Bench::running("a metronome without drift", LARGEST, 1)?;
-    let ticked = Answer::Turn(Turn { no: DONE, id: 64, reason: 1, sleep: 0 });
+    let ticked = Answer::Turn(Turn { no: DONE, id: 256, reason: 1, sleep: 0 });
     bench.expect(Call::Every(10_000), made(64))?;
     bench.expect(receive_any(-1), nothing_received(WAITING))?;
     for (step, until_next) in [(13_000, 7_000), (7_000, 10_000), (22_000, 8_000)] {
         bench.expect(Call::Advance(step), Answer::Advanced(Advanced { no: DONE, fired: 1 }))?;
         bench.expect(Call::Next, ticked.clone())?;
-        bench.expect(receive_any(0), received(0, TIMER, 0, 8))?;
+        bench.expect(receive_any(0), received(0, TIMER, 0, 12))?;
         bench.expect(receive_any(-1), nothing_received(WAITING))?;
         bench.expect(Call::Next, sleep(until_next))?;
     }
@@ -195,10 +198,10 @@ fn metronome() -> Checked {
 fn limits() -> Checked {
     let mut bench = Bench::running("limits", LARGEST, 1)?;
     bench.expect(receive_any(-2), nothing_received(MALFORMED))?;
-    bench.expect(notify(64, 0, 252), Answer::Number(DONE))?;
-    bench.expect(notify(64, 0, 253), Answer::Number(MALFORMED))?;
-    bench.expect(notify(64, 134_217_726, 0), Answer::Number(DONE))?;
-    bench.expect(Call::Link(64), Answer::Number(MALFORMED))
+    bench.expect(notify(256, 0, 252), Answer::Number(DONE))?;
+    bench.expect(notify(256, 0, 253), Answer::Number(MALFORMED))?;
+    bench.expect(notify(256, 134_217_726, 0), Answer::Number(DONE))?;
+    bench.expect(Call::Link(256), Answer::Number(MALFORMED))
 }
 
 /// A wait of a day and one without end pass, one a millisecond longer is malformed; an interval of 100 passes, one of 99 is malformed.
@@ -210,23 +213,64 @@ fn waits_and_intervals() -> Checked {
     bench.expect(Call::Cancel(64), Answer::Number(DONE))?;
     bench.expect(receive_any(86_400_001), nothing_received(MALFORMED))?;
     bench.expect(receive_any(86_400_000), nothing_received(WAITING))?;
-    bench.expect(Call::Next, turn(65))?;
+    bench.expect(Call::Next, turn(257))?;
     bench.expect(receive_any(-1), nothing_received(WAITING))?;
     bench.expect(Call::Next, sleep(86_400_000_000))
 }
 
 fn bench_run() -> Checked {
     let mut bench = Bench::running("bench run", LARGEST, 2)?;
-    bench.expect(Call::Link(65), Answer::Number(DONE))?;
+    bench.expect(Call::Link(257), Answer::Number(DONE))?;
     bench.expect(Call::Exit(65_533), ended(1, 0))?;
-    bench.expect(Call::Next, turn(65))?;
-    bench.expect(receive_any(0), received(64, EXIT, 0, 14))?;
+    bench.expect(Call::Next, turn(257))?;
+    bench.expect(receive_any(0), received(256, EXIT, 0, 22))?;
     let notice = bench.in_hand();
-    bench.same("notice", &notice[..], &[0x0C, 0, 0x02, 0, 0x40, 0, 0, 0, 0xFD, 0xFF, 0, 0, 0, 0])?;
+    let exit_of_the_first = [0x14, 0, 0x04, 0, 0, 1, 0, 0, 0, 0, 0, 0, 0xFD, 0xFF, 0, 0, 0, 0, 0, 0, 0, 0];
+    bench.same("notice", &notice[..], &exit_of_the_first)?;
     let read = ffi::read_exit(&notice);
-    bench.same("read_exit", read, ExitRead { no: DONE, actor: 64, reason: 65_533, monitor: 0 })?;
+    bench.same("read_exit", read, ExitRead { no: DONE, kind: 4, actor: 256, reason: 65_533, monitor: 0 })?;
     let word = ffi::reason_word(read.reason);
     bench.same("reason word", &word.bytes[..word.len], b"crash")
+}
+
+/// All 256 actors, of which the last is sent a message; then there is no room. A 257th is malformed to start.
+fn many_actors() -> Checked {
+    let mut bench = Bench::running("256 actors", [256, 1, 1, 0, 0, 0], 256)?;
+    bench.expect(Call::Spawn(1), Answer::Made(Made { no: NO_ROOM, id: 0 }))?;
+    bench.expect(notify(511, 0, 0), Answer::Number(DONE))?;
+    bench.expect(Call::Exit(65_532), ended(0, 0))?;
+    bench.expect(Call::Spawn(1), made(512))?;
+    bench.expect(Call::Start([257, 1, 1, 0, 0, 0]), Answer::Number(MALFORMED))
+}
+
+/// Actors in slots that are the same modulo 64 are linked to one another, watch one another and sit on one bus.
+fn twins() -> Checked {
+    let mut bench = Bench::running("slots that are the same modulo 64", LARGEST, 256)?;
+    bench.expect(Call::Bus(1, 32, 0, 0), made(0))?;
+    for slot in 0..256 {
+        let id = 256 + slot;
+        for other in [0, 1, 64, 65, 128, 129, 192, 193].map(|slot| 256 + slot) {
+            if slot % 64 == 0 && other != id {
+                bench.expect(Call::Link(other), Answer::Number(DONE))?;
+            }
+        }
+        if slot % 64 < 2 {
+            bench.expect(Call::Subscribe(0), Answer::Number(DONE))?;
+        }
+        bench.expect(Call::Yield, Answer::Number(DONE))?;
+        bench.expect(Call::Next, turn(256 + (slot + 1) % 256))?;
+    }
+    bench.expect(Call::Exit(65_532), ended(7, 0))
+}
+
+/// The readers of today take a tick of either edition, and those of the old edition theirs alone.
+fn both_editions() -> Checked {
+    let bench = Bench::start("both editions of a record", LARGEST)?;
+    let (tick, old_tick) = ([0x0A, 0, 3, 0, 0x40, 0, 0, 0, 1, 0, 0, 0], [0x06, 0, 1, 0, 0x40, 0, 0, 0]);
+    bench.same("read_tick", ffi::read_tick(&tick), TickRead { no: DONE, kind: 3, id: (1 << 32) + 64 })?;
+    bench.same("read_tick", ffi::read_tick(&old_tick), TickRead { no: DONE, kind: 1, id: 64 })?;
+    bench.same("read_old_tick", ffi::read_old_tick(&tick), OldTickRead { no: MALFORMED, id: 0 })?;
+    bench.same("read_old_tick", ffi::read_old_tick(&old_tick), OldTickRead { no: DONE, id: 64 })
 }
 
 /// Rule 1 of the bus: E1, E2 and E3 stand on it when somebody subscribes, who cannot read them; E4 it can.

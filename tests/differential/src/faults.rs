@@ -2,13 +2,14 @@
 //! the differential test finds them: the wrong runtimes that document 01 names, and errors that are easy to make.
 
 use crate::call::{Answer, Call, Written};
-use crate::layout::{self, CLOCK, DATA_FREE, INTERVAL, SPARE};
+use crate::layout::{self, CLOCK, DATA_FREE, INTERVAL, LENGTH, SPARE};
 use model::limits::*;
+use model::records::{header, OLD_TICK_BYTES, TICK_BYTES};
 use model::state::{Activity, Reason, State};
 use model::{Advanced, Ended, Model, DONE};
 use std::sync::OnceLock;
 
-pub const NAMES: [&str; 38] = [
+pub const NAMES: [&str; 48] = [
     "all-unsound",
     "next-names-slot-0",
     "notify-stores-nothing",
@@ -47,7 +48,20 @@ pub const NAMES: [&str; 38] = [
     "age-has-to-be-passed",
     "copy-a-byte-too-long",
     "copied-bytes-not-judged",
+    "slot-by-64",
+    "large-sender-refused",
+    "start-refuses-65-actors",
+    "worn-too-early",
+    "old-length-sound",
+    "notice-cuts-ids",
+    "record-cuts-ids",
+    "old-reader-takes-new-kind",
+    "old-kinds-refused",
+    "kind-not-told",
 ];
+
+/// The age of a slot's last use before C-19.
+const OLD_MAX_AGE: u64 = 33_000_000;
 
 fn chosen() -> &'static str {
     static CHOSEN: OnceLock<String> = OnceLock::new();
@@ -80,6 +94,9 @@ pub fn read(words: &[u64], bytes: &[u8]) -> Option<State> {
     if is("short-interval-sound") {
         lengthen_intervals(&mut words, &bytes);
     }
+    if is("old-length-sound") {
+        lengthen_records(&mut words, &bytes);
+    }
     layout::decode(&words, &bytes)
 }
 
@@ -89,6 +106,17 @@ fn lengthen_intervals(words: &mut [u64], bytes: &[u8]) {
     let start = layout::starts(&caps)[INTERVAL];
     let short = words[start..].iter_mut().take(caps[5] as usize).filter(|word| **word == MIN_INTERVAL - 1);
     short.for_each(|word| *word = MIN_INTERVAL);
+}
+
+/// Makes the length of each tick that is an old tick's the length of today.
+fn lengthen_records(words: &mut [u64], bytes: &[u8]) {
+    let Some(caps) = layout::capacities(words, bytes) else { return };
+    let start = layout::starts(&caps)[LENGTH];
+    for (length, entry) in words[start..].iter_mut().zip(bytes.chunks(256)).take(caps[2] as usize) {
+        if entry[..4] == header(TIMER, true, 0) && *length == OLD_TICK_BYTES as u64 {
+            *length = TICK_BYTES as u64;
+        }
+    }
 }
 
 fn clear_free_entries(words: &[u64], bytes: &mut [u8]) {
@@ -108,6 +136,9 @@ pub fn before(call: &Call, state: &mut State) {
     if is("worn-slot-taken") && name == "spawn" {
         let worn = state.actors.slots.iter_mut().find(|s| s.held.is_none() && s.age == MAX_AGE);
         worn.into_iter().for_each(|s| s.age -= 1);
+    }
+    if is("worn-too-early") && name == "spawn" {
+        state.actors.slots.iter_mut().filter(|s| s.age >= OLD_MAX_AGE).for_each(|s| s.age = MAX_AGE);
     }
     if is("next-names-slot-0") && name == "next" {
         if let Some(place) = state.queue.iter().position(|&slot| slot == 0) {
@@ -139,6 +170,14 @@ pub fn call(call: Call, before: &Model) -> Call {
     match call {
         Call::Notify(target, tag, payload) if is("only-the-slot-of-an-id") => {
             Call::Notify(same_slot(before, target), tag, payload)
+        }
+        Call::Notify(target, tag, payload) if is("slot-by-64") => {
+            Call::Notify(target / ACTOR_FACTOR * ACTOR_FACTOR + target % 64, tag, payload)
+        }
+        Call::Receive(sender, _, tag, wait)
+            if is("large-sender-refused") && sender >> 32 != 0 && sender < ANY_SENDER =>
+        {
+            Call::Receive(sender, LAST_CLASS + 1, tag, wait)
         }
         Call::Receive(sender, class, tag, wait) if is("head-instead-of-match") && tag < ANY_TAG => {
             Call::Receive(sender, class, ANY_TAG, wait)
@@ -205,6 +244,7 @@ fn free_room(state: &mut State) {
 /// Bends the state after a call that was not refused.
 pub fn after(call: &Call, old: &State, new: &mut State) {
     match call.name() {
+        "exit" | "advance" if is("notice-cuts-ids") => cut_ids(old, new),
         "subscribe" if is("new-subscriber-sees-history") => show_history(old, new),
         "read" if is("read-not-marked") => *new = old.clone(),
         "exit" if is("exit-keeps-subscriptions") => new.buses = old.buses.clone(),
@@ -219,6 +259,14 @@ pub fn after(call: &Call, old: &State, new: &mut State) {
         "advance" if is("due-a-beat-late") => move_beats(old, new, |due, _, interval| due + interval),
         "spawn" if is("age-not-raised") => lower_new_ages(old, new),
         _ => {}
+    }
+}
+
+/// In the records that are new, the first id has 32 bits.
+fn cut_ids(old: &State, new: &mut State) {
+    for (before, now) in old.data.entries.iter().zip(&mut new.data.entries) {
+        let written = now.as_mut().filter(|message| before.is_none() && message.class != NOTIFY);
+        written.into_iter().for_each(|message| message.payload[8..12].fill(0));
     }
 }
 

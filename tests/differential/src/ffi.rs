@@ -4,7 +4,7 @@
 use crate::calls::calls;
 use crate::writers::{recorded, writers};
 use model::trace::{Field, Record};
-use model::{Advanced, Copied, Ended, ExitRead, Made, ReasonWord, Received, Report, Shown, TickRead, Turn};
+use model::*;
 
 /// Declares the functions of the calls in C, and makes the safe function of each: pointer and length of both buffers, then its numbers,
 /// then pointer and length of its payload, or of the slice that it writes to, where it has one.
@@ -125,10 +125,14 @@ mod others {
             timers: u64,
         ) -> u64;
 
-        pub fn fg_write_tick(out: *mut u8, len: usize, id: u32) -> u64;
+        pub fn fg_write_tick(out: *mut u8, len: usize, id: u64) -> u64;
         pub fn fg_read_tick(bytes: *const u8, len: usize) -> TickRead;
-        pub fn fg_write_exit(out: *mut u8, len: usize, actor: u32, reason: u16, monitor: u32) -> u64;
+        pub fn fg_write_exit(out: *mut u8, len: usize, actor: u64, reason: u16, monitor: u64) -> u64;
         pub fn fg_read_exit(bytes: *const u8, len: usize) -> ExitRead;
+        pub fn fg_write_old_tick(out: *mut u8, len: usize, id: u32) -> u64;
+        pub fn fg_read_old_tick(bytes: *const u8, len: usize) -> OldTickRead;
+        pub fn fg_write_old_exit(out: *mut u8, len: usize, actor: u32, reason: u16, monitor: u32) -> u64;
+        pub fn fg_read_old_exit(bytes: *const u8, len: usize) -> OldExitRead;
         pub fn fg_reason_word(reason: u16) -> ReasonWord;
 
         // C's bool is a byte; that it is 0 or 1 is tested here.
@@ -149,7 +153,7 @@ pub fn start(t: &mut [u64], p: &mut [u8], c: [u64; 6]) -> u64 {
     unsafe { others::fg_start(t.as_mut_ptr(), t.len(), p.as_mut_ptr(), p.len(), c[0], c[1], c[2], c[3], c[4], c[5]) }
 }
 
-pub fn write_tick(out: &mut [u8], id: u32) -> u64 {
+pub fn write_tick(out: &mut [u8], id: u64) -> u64 {
     // SAFETY: pointer and length of one live slice, here and below.
     unsafe { others::fg_write_tick(out.as_mut_ptr(), out.len(), id) }
 }
@@ -158,12 +162,28 @@ pub fn read_tick(bytes: &[u8]) -> TickRead {
     unsafe { others::fg_read_tick(bytes.as_ptr(), bytes.len()) }
 }
 
-pub fn write_exit(out: &mut [u8], actor: u32, reason: u16, monitor: u32) -> u64 {
+pub fn write_exit(out: &mut [u8], actor: u64, reason: u16, monitor: u64) -> u64 {
     unsafe { others::fg_write_exit(out.as_mut_ptr(), out.len(), actor, reason, monitor) }
 }
 
 pub fn read_exit(bytes: &[u8]) -> ExitRead {
     unsafe { others::fg_read_exit(bytes.as_ptr(), bytes.len()) }
+}
+
+pub fn write_old_tick(out: &mut [u8], id: u32) -> u64 {
+    unsafe { others::fg_write_old_tick(out.as_mut_ptr(), out.len(), id) }
+}
+
+pub fn read_old_tick(bytes: &[u8]) -> OldTickRead {
+    unsafe { others::fg_read_old_tick(bytes.as_ptr(), bytes.len()) }
+}
+
+pub fn write_old_exit(out: &mut [u8], actor: u32, reason: u16, monitor: u32) -> u64 {
+    unsafe { others::fg_write_old_exit(out.as_mut_ptr(), out.len(), actor, reason, monitor) }
+}
+
+pub fn read_old_exit(bytes: &[u8]) -> OldExitRead {
+    unsafe { others::fg_read_old_exit(bytes.as_ptr(), bytes.len()) }
 }
 
 pub fn reason_word(reason: u16) -> ReasonWord {

@@ -7,6 +7,9 @@ use model::limits::*;
 use model::pool::Slots;
 use model::state::{Activity, State};
 
+/// What stood for any sender in the old edition, where larger ones were malformed.
+const OLD_ANY_SENDER: u64 = 4_294_967_295;
+
 /// Ids that were answered at some time, the latest ones.
 #[derive(Default)]
 pub struct Seen {
@@ -69,11 +72,12 @@ pub fn mood(random: &mut Random) -> Mood {
 
 /// Capacities for a start that succeeds in long enough buffers.
 pub fn good_capacities(random: &mut Random) -> Capacities {
-    match random.below(12) {
+    match random.below(13) {
         0 => [1, 1, 1, 0, 0, 0],
         1 => LARGEST,
         2 => within(random, [3, 3, 3, 2, 2, 2]),
         3 => within(random, LARGEST),
+        12 => [random.pick(&[63, 64, 65, 128, 129, 200, 255, 256]), 24, 24, 12, 8, 6],
         4..=6 => [8, 24, 24, 8, 8, 6],
         _ => within(random, [8, 12, 12, 8, 8, 6]),
     }
@@ -340,7 +344,7 @@ impl Generator<'_> {
 
     fn sender(&mut self) -> u64 {
         if self.odd() {
-            self.random.pick(&[0, ANY_SENDER - 1, ANY_SENDER + 1, 1 << 33, u64::MAX])
+            self.random.pick(&[0, 1, OLD_ANY_SENDER, OLD_ANY_SENDER + 1, 1 << 63, ANY_SENDER - 1, ANY_SENDER])
         } else if self.random.percent(60) {
             ANY_SENDER
         } else if self.random.percent(20) {
@@ -426,7 +430,17 @@ impl Generator<'_> {
 
     fn actor(&mut self) -> u64 {
         let live = self.state.map(|s| live_ids(&s.actors)).unwrap_or_default();
-        self.id(live, &self.actors.ids, ACTOR_FACTOR)
+        let twins = self.twins(&live);
+        match self.random.pick_some(&twins) {
+            Some(twin) if self.random.percent(40) => twin,
+            _ => self.id(live, &self.actors.ids, ACTOR_FACTOR),
+        }
+    }
+
+    /// In a box for more than 64 actors, the live ones in a few slots that are the same modulo 64: whoever keeps 64 bits takes one for the other.
+    fn twins(&self, live: &[u64]) -> Vec<u64> {
+        let crowd = self.state.is_some_and(|s| s.actors.slots.len() > 64);
+        live.iter().copied().filter(|id| crowd && id % 64 < 2).collect()
     }
 
     fn timer(&mut self) -> u64 {
@@ -446,13 +460,15 @@ impl Generator<'_> {
         if !self.odd() {
             return id;
         }
-        match self.random.below(7) {
+        match self.random.below(9) {
             0 => id + factor,
             1 => id.saturating_sub(factor),
             2 => id + (1 << 32),
             3 => id + (1 << 63),
-            4 => self.random.pick(&[0, 1, 63, 64, 127, 128, 2_112_000_000, 2_112_000_064, 4_224_000_000]),
-            5 => self.random.pick(&[ANY_SENDER, ANY_SENDER + 1, u64::MAX, 1 << 63]),
+            4 => id % (1 << 32),
+            5 => id ^ self.random.pick(&[64, 128]),
+            6 => self.random.pick(&[0, 1, 63, 64, 127, 128, 255, 256, MAX_AGE * factor, (MAX_AGE + 1) * factor]),
+            7 => self.random.pick(&[OLD_ANY_SENDER, OLD_ANY_SENDER + 1, ANY_SENDER - 1, ANY_SENDER, 1 << 63]),
             _ => self.random.bits(),
         }
     }

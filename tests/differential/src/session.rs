@@ -50,6 +50,7 @@ impl<'a> Session<'a> {
             self.plain()?;
         }
         self.compare(&Call::Start(self.first))?;
+        self.crowd()?;
         for _ in 0..self.random.between(100, 1_500) {
             if self.trace.is_some() {
                 self.traced_step()?;
@@ -58,6 +59,19 @@ impl<'a> Session<'a> {
             }
         }
         self.end_trace()
+    }
+
+    /// Half of the large boxes begin with more actors than a word has bits, which calls alone would seldom make.
+    fn crowd(&mut self) -> Result<(), Difference> {
+        let actors = self.first[0];
+        if actors <= 64 || self.random.percent(50) {
+            return Ok(());
+        }
+        for _ in 0..self.random.between(64, actors) {
+            let priority = self.random.below(MAX_PRIORITY + 1);
+            self.compare(&Call::Spawn(priority))?;
+        }
+        Ok(())
     }
 
     fn step(&mut self) -> Result<(), Difference> {
@@ -247,7 +261,8 @@ impl<'a> Session<'a> {
         (near(self.random, words_needed(&caps), words), near(self.random, bytes_needed(&caps), bytes))
     }
 
-    /// Moves the clock or a slot's age close to its limit, which calls alone would take too long to do.
+    /// Moves the clock close to its limit, or a slot's age to where its ids need more than 32 bits or close to its limit, which calls alone would
+    /// take too long to do.
     fn sound_edit(&mut self) {
         let Some(state) = &self.model.state else { return };
         let Some((index, value)) = edit(self.random, state) else { return };
@@ -278,5 +293,7 @@ fn edit(random: &mut Random, state: &State) -> Option<(usize, u64)> {
     if size == 0 {
         return None;
     }
-    Some((starts[column] + random.index(size), MAX_AGE - random.below(3)))
+    let age =
+        if random.percent(50) { MAX_AGE - random.below(3) } else { (1 << random.between(24, 39)) - random.below(2) };
+    Some((starts[column] + random.index(size), age))
 }

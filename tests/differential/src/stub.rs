@@ -52,7 +52,8 @@ unsafe extern "C" fn fg_start(
     let caps = [actors, mailboxes, data, links, monitors, timers];
     let mut m = Model::unsound();
     let wanted = if faults::is("start-wants-a-word-more") { 1 } else { 0 };
-    let no = m.start(table_suffices(t_len.saturating_sub(wanted), &caps), p_len as u64, caps);
+    let crowded = faults::is("start-refuses-65-actors") && actors > 64;
+    let no = m.start(!crowded && table_suffices(t_len.saturating_sub(wanted), &caps), p_len as u64, caps);
     if no == 0 {
         bytes[..bytes_needed(&caps) as usize].fill(0);
         store(&m, words, bytes);

@@ -83,7 +83,7 @@ pub struct Trace {
 
 impl Trace {
     pub fn new(fill: u8) -> Self {
-        let buffers = Buffers { words: vec![u64::from(fill); 6_144], bytes: vec![fill; 65_536] };
+        let buffers = Buffers { words: vec![u64::from(fill); 8_192], bytes: vec![fill; 65_536] };
         Trace { bytes: Vec::new(), records: 0, buffers, replay: Replay::new(suffices) }
     }
 
@@ -188,6 +188,6 @@ fn change_number(random: &mut Random, bytes: &mut [u8]) {
     let at = if random.percent(50) { 4 + place } else { bytes.len() - 8 - place };
     let number: &mut [u8] = &mut bytes[at..at + 8];
     let old = u64::from_le_bytes(number.try_into().expect("eight bytes"));
-    let new = random.pick(&[0, 1, 2, 3, 7, 64, u64::MAX, old ^ 1, old.wrapping_add(1), old.wrapping_add(1 << 32)]);
+    let new = random.pick(&[0, 1, 2, 3, 7, 64, 256, u64::MAX, old ^ 1, old.wrapping_add(1), old.wrapping_add(1 << 32)]);
     number.copy_from_slice(&new.to_le_bytes());
 }

@@ -77,16 +77,38 @@ pub struct Copied {
     pub length: u64,
 }
 
+/// What the record of a tick says, of either edition: its kind says which.
 #[repr(C)]
 #[derive(Debug, Clone, Copy, PartialEq, Eq, Default)]
 pub struct TickRead {
     pub no: u64,
-    pub id: u32,
+    pub kind: u16,
+    pub id: u64,
 }
 
+/// The same of an exit notice's.
 #[repr(C)]
 #[derive(Debug, Clone, Copy, PartialEq, Eq, Default)]
 pub struct ExitRead {
+    pub no: u64,
+    pub kind: u16,
+    pub actor: u64,
+    pub reason: u16,
+    pub monitor: u64,
+}
+
+/// What a reader of the old edition makes of the record of a tick.
+#[repr(C)]
+#[derive(Debug, Clone, Copy, PartialEq, Eq, Default)]
+pub struct OldTickRead {
+    pub no: u64,
+    pub id: u32,
+}
+
+/// The same of an exit notice's.
+#[repr(C)]
+#[derive(Debug, Clone, Copy, PartialEq, Eq, Default)]
+pub struct OldExitRead {
     pub no: u64,
     pub actor: u32,
     pub reason: u16,

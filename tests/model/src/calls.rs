@@ -417,7 +417,7 @@ fn fire_timers(state: &mut State) -> u64 {
 fn fire(state: &mut State, slot: usize) {
     let id = state.timers.id(slot);
     let timer = *state.timers.get(slot).expect("due timers are live");
-    let payload = records::tick(id as u32);
+    let payload = records::tick(id);
     state.deliver(timer.owner, Message { sender: 0, class: TIMER, tag: 0, payload });
     match timer.interval {
         None => drop(state.timers.release(slot)),
@@ -458,7 +458,7 @@ fn end(state: &mut State, me: usize, reason: u64) -> Ended {
     let mut ended = Ended::default();
     let sender = state.actors.id(me);
     for (watcher, monitor) in told {
-        let payload = records::exit(sender as u32, reason as u16, monitor as u32);
+        let payload = records::exit(sender, reason as u16, monitor);
         if state.deliver(watcher, Message { sender, class: EXIT, tag: 0, payload }) {
             ended.sent += 1;
         } else {

@@ -1,16 +1,16 @@
 //! The ranges and special numbers of document 01, and of the requests that came later.
 
 /// Largest capacity of each pool, in the order of the pool table.
-pub const LARGEST: [u64; 6] = [64, 256, 256, 128, 128, 64];
+pub const LARGEST: [u64; 6] = [256, 256, 256, 128, 128, 64];
 /// Smallest capacity of each pool, in the same order.
 pub const SMALLEST: [u64; 6] = [1, 1, 1, 0, 0, 0];
 
-/// Ids of actors and timers are age × 64 + slot, those of monitors age × 128 + slot.
-pub const ACTOR_FACTOR: u64 = 64;
+/// Ids of actors are age × 256 + slot, those of timers age × 64 + slot, those of monitors age × 128 + slot.
+pub const ACTOR_FACTOR: u64 = 256;
 pub const TIMER_FACTOR: u64 = 64;
 pub const MONITOR_FACTOR: u64 = 128;
 /// The age of a slot's last use.
-pub const MAX_AGE: u64 = 33_000_000;
+pub const MAX_AGE: u64 = 1 << 40;
 
 pub const MAX_CLOCK: u64 = 1 << 62;
 /// Delays, intervals and steps of the clock are at most this many microseconds.
@@ -34,7 +34,8 @@ pub const MAX_SUBSCRIBERS: u64 = 32;
 pub const MAX_READS: u64 = 32;
 pub const MAX_BUS_AGE: u64 = (1 << 31) - 1;
 
-pub const ANY_SENDER: u64 = 4_294_967_295;
+/// No actor's id is so large, and no sender is malformed.
+pub const ANY_SENDER: u64 = u64::MAX;
 pub const ANY_CLASS: u64 = 15;
 pub const ANY_TAG: u64 = 134_217_727;
 

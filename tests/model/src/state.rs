@@ -12,9 +12,9 @@ pub struct Filter {
 }
 
 impl Filter {
-    /// Classes 5 to 14 or above 15 and larger senders or tags are malformed.
+    /// Classes 5 to 14 or above 15 and larger tags are malformed; no sender is.
     pub fn is_legal(&self) -> bool {
-        self.sender <= ANY_SENDER && self.tag <= ANY_TAG && (self.class <= LAST_CLASS || self.class == ANY_CLASS)
+        self.tag <= ANY_TAG && (self.class <= LAST_CLASS || self.class == ANY_CLASS)
     }
 
     pub fn matches(&self, message: &Message) -> bool {

@@ -16,9 +16,9 @@ fn started(caps: Capacities) -> Model {
 fn running(caps: Capacities, actors: u64) -> Model {
     let mut m = started(caps);
     for i in 0..actors {
-        assert_eq!(m.spawn(1), Made { no: DONE, id: 64 + i });
+        assert_eq!(m.spawn(1), Made { no: DONE, id: 256 + i });
     }
-    assert_eq!(m.next(), Turn { no: DONE, id: 64, reason: 0, sleep: 0 });
+    assert_eq!(m.next(), Turn { no: DONE, id: 256, reason: 0, sleep: 0 });
     m
 }
 
@@ -30,18 +30,7 @@ fn any(m: &mut Model, wait: i64) -> Received {
 fn ids_of_the_first_spawns() {
     let mut m = running(LARGE, 2);
     assert_eq!(m.exit(65_532), Ended { no: DONE, sent: 0, lost: 0 });
-    assert_eq!(m.spawn(0), Made { no: DONE, id: 128 });
-}
-
-#[test]
-fn last_id_of_slot_0() {
-    let mut m = started([1, 1, 1, 0, 0, 0]);
-    m.state.as_mut().unwrap().actors.slots[0].age = MAX_AGE - 1;
-    assert_eq!(m.spawn(0).id, 2_112_000_000);
-    assert_eq!(m.next().id, 2_112_000_000);
-    assert_eq!(m.exit(0).no, DONE);
-    assert_eq!(m.spawn(0), Made { no: NO_ROOM, id: 0 });
-    assert_eq!(m.report().free, [0, 1, 1, 0, 0, 0]);
+    assert_eq!(m.spawn(0), Made { no: DONE, id: 512 });
 }
 
 #[test]
@@ -54,37 +43,24 @@ fn header_bytes() {
 }
 
 #[test]
-fn tick_of_timer_64() {
-    assert_eq!(records::tick(64), [0x06, 0, 0x01, 0, 0x40, 0, 0, 0]);
-    assert_eq!(records::read_tick(&records::tick(64)), TickRead { no: DONE, id: 64 });
-}
-
-#[test]
-fn link_notice_for_65() {
-    let bytes = [0x0C, 0, 0x02, 0, 0x41, 0, 0, 0, 0xFD, 0xFF, 0, 0, 0, 0];
-    assert_eq!(records::exit(65, 65_533, 0), bytes);
-    assert_eq!(records::read_exit(&bytes), ExitRead { no: DONE, actor: 65, reason: 65_533, monitor: 0 });
-}
-
-#[test]
 fn one_mailbox_one_data_entry() {
     let mut m = running([1, 1, 1, 0, 0, 0], 1);
-    assert_eq!(m.notify(64, 0, b"x"), DONE);
-    assert_eq!(any(&mut m, 0), Received { no: DONE, sender: 64, class: 0, tag: 0, length: 1 });
-    assert_eq!(m.notify(64, 0, b"x"), NO_ROOM);
+    assert_eq!(m.notify(256, 0, b"x"), DONE);
+    assert_eq!(any(&mut m, 0), Received { no: DONE, sender: 256, class: 0, tag: 0, length: 1 });
+    assert_eq!(m.notify(256, 0, b"x"), NO_ROOM);
     assert_eq!(any(&mut m, 0), Received { no: NOTHING, ..Default::default() });
-    assert_eq!(m.notify(64, 0, b"x"), DONE);
+    assert_eq!(m.notify(256, 0, b"x"), DONE);
 }
 
 #[test]
 fn exit_frees_its_mailbox_before_it_sends() {
     let mut m = running([3, 1, 1, 2, 0, 0], 3);
-    assert_eq!(m.link(65), DONE);
-    assert_eq!(m.link(66), DONE);
-    assert_eq!(m.notify(64, 1, &[]), DONE);
+    assert_eq!(m.link(257), DONE);
+    assert_eq!(m.link(258), DONE);
+    assert_eq!(m.notify(256, 1, &[]), DONE);
     assert_eq!(m.exit(65_533), Ended { no: DONE, sent: 1, lost: 1 });
-    assert_eq!(m.next().id, 65);
-    assert_eq!(any(&mut m, 0).sender, 64);
+    assert_eq!(m.next().id, 257);
+    assert_eq!(any(&mut m, 0).sender, 256);
 }
 
 #[test]
@@ -96,25 +72,25 @@ fn time_to_sleep() {
     let mut m = running(LARGE, 1);
     assert_eq!(m.advance(1_000), Advanced { no: DONE, fired: 0 });
     assert_eq!(m.after(500), Made { no: DONE, id: 64 });
-    assert_eq!(m.receive(65, ANY_CLASS, ANY_TAG, 2).no, WAITING);
+    assert_eq!(m.receive(257, ANY_CLASS, ANY_TAG, 2).no, WAITING);
     assert_eq!(m.next(), Turn { no: WAITING, id: 0, reason: 0, sleep: 500 });
     assert_eq!(m.advance(500).fired, 1);
     assert_eq!(m.next().sleep, 1_500);
     assert_eq!(m.advance(1_500).fired, 0);
-    assert_eq!(m.next(), Turn { no: DONE, id: 64, reason: 2, sleep: 0 });
+    assert_eq!(m.next(), Turn { no: DONE, id: 256, reason: 2, sleep: 0 });
 }
 
 #[test]
 fn arguments_at_their_limits() {
     let mut m = running(LARGE, 1);
     assert_eq!(any(&mut m, -2).no, MALFORMED);
-    assert_eq!(m.notify(64, 0, &[1; 252]), DONE);
-    assert_eq!(m.notify(64, 0, &[1; 253]), MALFORMED);
-    assert_eq!(m.notify(64, 134_217_726, &[]), DONE);
-    assert_eq!(m.notify(64, 134_217_727, &[]), MALFORMED);
-    assert_eq!(m.link(64), MALFORMED);
-    assert_eq!(m.monitor(64).no, MALFORMED);
-    assert_eq!(m.unlink(64), UNKNOWN);
+    assert_eq!(m.notify(256, 0, &[1; 252]), DONE);
+    assert_eq!(m.notify(256, 0, &[1; 253]), MALFORMED);
+    assert_eq!(m.notify(256, 134_217_726, &[]), DONE);
+    assert_eq!(m.notify(256, 134_217_727, &[]), MALFORMED);
+    assert_eq!(m.link(256), MALFORMED);
+    assert_eq!(m.monitor(256).no, MALFORMED);
+    assert_eq!(m.unlink(256), UNKNOWN);
     assert_eq!(m.every(0).no, MALFORMED);
     assert_eq!(m.after(1 << 32).no, MALFORMED);
     assert_eq!(m.exit(65_536).no, MALFORMED);
@@ -130,7 +106,7 @@ fn a_wait_ends_within_a_day_unless_it_is_for_ever() {
     assert_eq!(any(&mut m, (1 << 31) - 1).no, MALFORMED);
     assert_eq!(any(&mut m, i64::MAX).no, MALFORMED);
     assert_eq!(any(&mut m, day).no, WAITING);
-    assert_eq!(m.next().id, 65);
+    assert_eq!(m.next().id, 257);
     assert_eq!(any(&mut m, -1).no, WAITING);
     assert_eq!(m.next().sleep, 1_000 * day);
     let mut slept = 0;
@@ -139,7 +115,7 @@ fn a_wait_ends_within_a_day_unless_it_is_for_ever() {
         assert_eq!(m.advance(step).no, DONE);
         slept += step;
     }
-    assert_eq!(m.next(), Turn { no: DONE, id: 64, reason: 2, sleep: 0 });
+    assert_eq!(m.next(), Turn { no: DONE, id: 256, reason: 2, sleep: 0 });
 }
 
 #[test]
@@ -158,39 +134,39 @@ fn an_interval_has_at_least_100_microseconds_and_a_delay_may_be_shorter() {
 fn the_bench_run() {
     let mut m = started(LARGE);
     let mut out = vec![m.spawn(1).id.to_string(), m.spawn(1).id.to_string(), m.next().id.to_string()];
-    assert_eq!(m.link(65), DONE);
+    assert_eq!(m.link(257), DONE);
     let ended = m.exit(65_533);
     out.push(format!("sent {} lost {}", ended.sent, ended.lost));
     out.push(m.next().id.to_string());
     assert_eq!(any(&mut m, 0).no, DONE);
     let notice = records::read_exit(&m.show());
     out.push(format!("{} {}", records::reason_word(notice.reason), notice.actor));
-    assert_eq!(out, ["64", "65", "64", "sent 1 lost 0", "65", "crash 64"]);
+    assert_eq!(out, ["256", "257", "256", "sent 1 lost 0", "257", "crash 256"]);
 }
 
 #[test]
 fn a_message_to_an_ended_actor_does_not_reach_the_next_in_its_slot() {
     let mut m = running(LARGE, 2);
     m.exit(65_532);
-    assert_eq!(m.spawn(1).id, 128);
+    assert_eq!(m.spawn(1).id, 512);
     m.next();
-    assert_eq!(m.notify(64, 0, &[]), UNKNOWN);
-    assert_eq!(m.notify(128, 0, &[]), DONE);
-    assert_eq!(m.notify(128 + (1 << 32), 0, &[]), UNKNOWN);
+    assert_eq!(m.notify(256, 0, &[]), UNKNOWN);
+    assert_eq!(m.notify(512, 0, &[]), DONE);
+    assert_eq!(m.notify(512 + (1 << 32), 0, &[]), UNKNOWN);
 }
 
 #[test]
 fn only_a_matching_message_wakes_and_the_first_match_is_taken() {
     let mut m = running(LARGE, 2);
     assert_eq!(m.receive(ANY_SENDER, 0, 7, -1).no, WAITING);
-    assert_eq!(m.next().id, 65);
-    assert_eq!(m.notify(64, 6, b"six"), DONE);
+    assert_eq!(m.next().id, 257);
+    assert_eq!(m.notify(256, 6, b"six"), DONE);
     assert_eq!(m.yield_now(), DONE);
-    assert_eq!(m.next().id, 65);
-    assert_eq!(m.notify(64, 7, b"seven"), DONE);
+    assert_eq!(m.next().id, 257);
+    assert_eq!(m.notify(256, 7, b"seven"), DONE);
     assert_eq!(m.yield_now(), DONE);
-    assert_eq!(m.next(), Turn { no: DONE, id: 64, reason: 1, sleep: 0 });
-    assert_eq!(m.receive(ANY_SENDER, 0, 7, -1), Received { no: DONE, sender: 65, class: 0, tag: 7, length: 5 });
+    assert_eq!(m.next(), Turn { no: DONE, id: 256, reason: 1, sleep: 0 });
+    assert_eq!(m.receive(ANY_SENDER, 0, 7, -1), Received { no: DONE, sender: 257, class: 0, tag: 7, length: 5 });
     assert_eq!(m.shown(), Shown { no: DONE, offset: 256 + 4, length: 5 });
     assert_eq!(m.show(), b"seven");
 }
@@ -199,7 +175,7 @@ fn only_a_matching_message_wakes_and_the_first_match_is_taken() {
 fn an_empty_payload_is_shown_with_its_place() {
     let mut m = running(LARGE, 1);
     assert_eq!(m.shown().no, UNKNOWN);
-    assert_eq!(m.notify(64, 0, &[]), DONE);
+    assert_eq!(m.notify(256, 0, &[]), DONE);
     assert_eq!(any(&mut m, 0).no, DONE);
     assert_eq!(m.shown(), Shown { no: DONE, offset: 4, length: 0 });
 }
@@ -211,7 +187,7 @@ fn ticks_come_before_deadlines_and_a_periodic_timer_ticks_once() {
     assert_eq!(any(&mut m, 1).no, WAITING);
     assert_eq!(m.advance(5_000), Advanced { no: DONE, fired: 1 });
     assert_eq!(m.next().reason, 1);
-    assert_eq!(any(&mut m, 0), Received { no: DONE, sender: 0, class: 3, tag: 0, length: 8 });
+    assert_eq!(any(&mut m, 0), Received { no: DONE, sender: 0, class: 3, tag: 0, length: 12 });
     assert_eq!(due(&m, 0), 5_100);
     assert_eq!(m.cancel(64), DONE);
     assert_eq!(m.cancel(64), UNKNOWN);
@@ -236,7 +212,7 @@ fn a_metronome_that_fires_late_keeps_its_beat() {
 fn a_metronome_without_room_stays_due_and_then_skips_to_its_beat() {
     let mut m = running([1, 1, 1, 0, 0, 1], 1);
     assert_eq!(m.every(1_000).id, 64);
-    assert_eq!(m.notify(64, 0, &[]), DONE);
+    assert_eq!(m.notify(256, 0, &[]), DONE);
     assert_eq!(m.advance(3_500).fired, 0);
     assert_eq!(due(&m, 0), 1_000);
     assert_eq!(any(&mut m, 0).no, DONE);
@@ -274,18 +250,18 @@ fn timers_stay_due_without_room() {
 fn notices_of_links_then_of_monitors() {
     let mut m = running(LARGE, 3);
     m.yield_now();
-    assert_eq!(m.next().id, 65);
-    assert_eq!(m.monitor(64), Made { no: DONE, id: 128 });
-    assert_eq!(m.monitor(64), Made { no: DONE, id: 129 });
-    assert_eq!(m.link(64), DONE);
-    assert_eq!(m.link(64), DONE);
+    assert_eq!(m.next().id, 257);
+    assert_eq!(m.monitor(256), Made { no: DONE, id: 128 });
+    assert_eq!(m.monitor(256), Made { no: DONE, id: 129 });
+    assert_eq!(m.link(256), DONE);
+    assert_eq!(m.link(256), DONE);
     m.yield_now();
-    assert_eq!(m.next().id, 66);
+    assert_eq!(m.next().id, 258);
     m.yield_now();
-    assert_eq!(m.next().id, 64);
+    assert_eq!(m.next().id, 256);
     assert_eq!(m.exit(9), Ended { no: DONE, sent: 3, lost: 0 });
-    assert_eq!(m.next().id, 65);
-    let monitors: Vec<u32> = (0..3)
+    assert_eq!(m.next().id, 257);
+    let monitors: Vec<u64> = (0..3)
         .map(|_| {
             assert_eq!(any(&mut m, 0).class, EXIT);
             records::read_exit(&m.show()).monitor
@@ -293,7 +269,7 @@ fn notices_of_links_then_of_monitors() {
         .collect();
     assert_eq!(monitors, [0, 128, 129]);
     assert_eq!(m.demonitor(128), UNKNOWN);
-    assert_eq!(m.report().free, [62, 256, 255, 128, 128, 64]);
+    assert_eq!(m.report().free, [254, 256, 255, 128, 128, 64]);
 }
 
 #[test]
@@ -306,27 +282,15 @@ fn refusals_in_their_order() {
     assert_eq!(m.report().no, UNSOUND);
     let mut m = started([1, 1, 1, 0, 0, 0]);
     assert_eq!(m.notify(1, ANY_TAG, &[]), NOT_NOW);
-    assert_eq!(m.spawn(0).id, 64);
+    assert_eq!(m.spawn(0).id, 256);
     m.next();
     assert_eq!(m.next().no, NOT_NOW);
     assert_eq!(m.notify(1, ANY_TAG, &[]), MALFORMED);
-    assert_eq!(m.notify(64, 0, &[]), DONE);
+    assert_eq!(m.notify(256, 0, &[]), DONE);
     assert_eq!(m.notify(1, 0, &[]), UNKNOWN);
-    assert_eq!(m.notify(64, 0, &[]), NO_ROOM);
+    assert_eq!(m.notify(256, 0, &[]), NO_ROOM);
     assert_eq!(m.exit(0).no, DONE);
     assert_eq!(m.yield_now(), NOT_NOW);
-}
-
-#[test]
-fn records_refuse_what_does_not_fit() {
-    let mut out = [9u8; 16];
-    assert_eq!(records::write_exit(&mut out[..13], 1, 2, 3), MALFORMED);
-    assert_eq!(out, [9; 16]);
-    assert_eq!(records::write_exit(&mut out, 1, 2, 3), DONE);
-    assert_eq!(out[14..], [9, 9]);
-    assert_eq!(records::read_exit(&out).no, MALFORMED);
-    assert_eq!(records::read_exit(&out[..14]).monitor, 3);
-    assert_eq!(records::read_tick(&out[..8]).no, MALFORMED);
 }
 
 #[test]

@@ -3,14 +3,14 @@
 use model::limits::*;
 use model::*;
 
-/// A thermometer, 64, which runs, and so many readers after it, all of one level.
+/// A thermometer, 256, which runs, and so many readers after it, all of one level.
 fn lab(caps: Capacities, readers: u64) -> Model {
     let mut m = Model::unsound();
     assert_eq!(m.start(true, bytes_needed(&caps), caps), DONE);
     for i in 0..=readers {
-        assert_eq!(m.spawn(1), Made { no: DONE, id: 64 + i });
+        assert_eq!(m.spawn(1), Made { no: DONE, id: 256 + i });
     }
-    assert_eq!(m.next().id, 64);
+    assert_eq!(m.next().id, 256);
     m
 }
 
@@ -90,23 +90,23 @@ fn a_new_subscriber_sees_nothing_published_before() {
 fn each_has_its_own_cursor_and_reads_in_the_order_of_publishing() {
     let mut m = lab(SMALL, 2);
     m.bus(8, 4, 0, 0);
-    turn(&mut m, 65);
+    turn(&mut m, 257);
     assert_eq!(m.subscribe(0), DONE);
-    turn(&mut m, 66);
+    turn(&mut m, 258);
     assert_eq!(m.subscribe(0), DONE);
-    turn(&mut m, 64);
+    turn(&mut m, 256);
     for text in ["20", "21", "22"] {
         assert_eq!(m.publish(0, text.as_bytes()), DONE);
     }
-    turn(&mut m, 65);
+    turn(&mut m, 257);
     reads(&mut m, 0, &["20", "21", "22"]);
-    turn(&mut m, 66);
+    turn(&mut m, 258);
     assert_eq!(read(&mut m, 0), Ok("20".to_string()));
-    turn(&mut m, 64);
+    turn(&mut m, 256);
     assert_eq!(m.publish(0, b"23"), DONE);
-    turn(&mut m, 65);
+    turn(&mut m, 257);
     reads(&mut m, 0, &["23"]);
-    turn(&mut m, 66);
+    turn(&mut m, 258);
     reads(&mut m, 0, &["21", "22", "23"]);
     assert_eq!(free_data(&mut m), 4);
 }
@@ -116,17 +116,17 @@ fn a_full_bus_evicts_its_oldest_entry_and_needs_no_room() {
     let mut m = lab([2, 4, 3, 0, 0, 0], 1);
     m.bus(3, 2, 0, 0);
     m.bus(1, 1, 0, 0);
-    turn(&mut m, 65);
+    turn(&mut m, 257);
     assert_eq!(m.subscribe(0), DONE);
-    turn(&mut m, 64);
+    turn(&mut m, 256);
     for text in ["E1", "E2", "E3"] {
         assert_eq!(m.publish(0, text.as_bytes()), DONE);
     }
     assert_eq!(free_data(&mut m), 0);
     assert_eq!(m.publish(1, b"x"), NO_ROOM);
-    assert_eq!(m.notify(65, 0, b"x"), NO_ROOM);
+    assert_eq!(m.notify(257, 0, b"x"), NO_ROOM);
     assert_eq!(m.publish(0, b"E4"), DONE);
-    turn(&mut m, 65);
+    turn(&mut m, 257);
     reads(&mut m, 0, &["E2", "E3", "E4"]);
 }
 
@@ -154,7 +154,7 @@ fn the_lowest_free_data_entry_is_taken_after_the_eviction() {
     assert_eq!(data(&m), [0, 1]);
     m.publish(0, b"c");
     assert_eq!(data(&m), [1, 0]);
-    assert_eq!(m.notify(64, 0, b"x"), DONE);
+    assert_eq!(m.notify(256, 0, b"x"), DONE);
     assert_eq!(m.receive(ANY_SENDER, ANY_CLASS, ANY_TAG, 0).no, DONE);
     assert_eq!(m.shown().offset, 2 * 256 + 4);
 }
@@ -163,7 +163,7 @@ fn the_lowest_free_data_entry_is_taken_after_the_eviction() {
 fn an_entry_ends_at_its_limit_of_reads() {
     let mut m = lab(SMALL, 2);
     m.bus(4, 3, 2, 0);
-    for id in [65, 66, 64] {
+    for id in [257, 258, 256] {
         assert_eq!(m.subscribe(0), DONE);
         turn(&mut m, id);
     }
@@ -171,10 +171,10 @@ fn an_entry_ends_at_its_limit_of_reads() {
     assert_eq!(free_data(&mut m), 7);
     reads(&mut m, 0, &["once for two"]);
     assert_eq!(free_data(&mut m), 7);
-    turn(&mut m, 65);
+    turn(&mut m, 257);
     reads(&mut m, 0, &["once for two"]);
     assert_eq!(free_data(&mut m), 8);
-    turn(&mut m, 66);
+    turn(&mut m, 258);
     assert_eq!(read(&mut m, 0), Err(NOTHING));
 }
 
@@ -183,15 +183,15 @@ fn a_read_of_one_who_left_counts() {
     let mut m = lab(SMALL, 1);
     m.bus(4, 2, 2, 0);
     assert_eq!(m.subscribe(0), DONE);
-    turn(&mut m, 65);
+    turn(&mut m, 257);
     assert_eq!(m.subscribe(0), DONE);
-    turn(&mut m, 64);
+    turn(&mut m, 256);
     assert_eq!(m.publish(0, b"x"), DONE);
     reads(&mut m, 0, &["x"]);
     assert_eq!(m.unsubscribe(0), DONE);
     assert_eq!(m.subscribe(0), DONE);
     assert_eq!(read(&mut m, 0), Err(NOTHING));
-    turn(&mut m, 65);
+    turn(&mut m, 257);
     reads(&mut m, 0, &["x"]);
     assert_eq!(free_data(&mut m), 8);
 }
@@ -226,7 +226,7 @@ fn ages_come_after_ticks_and_deadlines() {
     assert_eq!(m.receive(ANY_SENDER, ANY_CLASS, ANY_TAG, 1).no, WAITING);
     // The only data entry is still the bus's when the timer is due, so the tick waits.
     assert_eq!(m.advance(1_000), Advanced { no: DONE, fired: 0 });
-    assert_eq!(m.next(), Turn { no: DONE, id: 64, reason: 2, sleep: 0 });
+    assert_eq!(m.next(), Turn { no: DONE, id: 256, reason: 2, sleep: 0 });
     assert_eq!(free_data(&mut m), 1);
     assert_eq!(m.advance(0), Advanced { no: DONE, fired: 1 });
 }
@@ -237,15 +237,15 @@ fn a_full_list_and_a_second_subscription() {
     m.bus(1, 2, 0, 0);
     assert_eq!(m.subscribe(0), DONE);
     assert_eq!(m.subscribe(0), MALFORMED);
-    turn(&mut m, 65);
+    turn(&mut m, 257);
     assert_eq!(m.subscribe(0), DONE);
     assert_eq!(m.subscribe(0), MALFORMED);
-    turn(&mut m, 66);
+    turn(&mut m, 258);
     assert_eq!(m.subscribe(0), NO_ROOM);
-    turn(&mut m, 64);
+    turn(&mut m, 256);
     assert_eq!(m.unsubscribe(0), DONE);
-    turn(&mut m, 65);
-    turn(&mut m, 66);
+    turn(&mut m, 257);
+    turn(&mut m, 258);
     assert_eq!(m.subscribe(0), DONE);
     assert_eq!(m.state.as_ref().unwrap().buses[0].seats, [Some(2), Some(1)]);
 }
@@ -271,17 +271,17 @@ fn a_slice_that_is_too_short_leaves_the_entry_unread() {
 fn a_read_leaves_the_hand_alone_and_wakes_nobody() {
     let mut m = lab(SMALL, 1);
     m.bus(2, 2, 0, 0);
-    turn(&mut m, 65);
+    turn(&mut m, 257);
     assert_eq!(m.subscribe(0), DONE);
     assert_eq!(m.receive(ANY_SENDER, ANY_CLASS, ANY_TAG, -1).no, WAITING);
-    assert_eq!(m.next().id, 64);
-    assert_eq!((m.subscribe(0), m.notify(64, 0, b"kept")), (DONE, DONE));
+    assert_eq!(m.next().id, 256);
+    assert_eq!((m.subscribe(0), m.notify(256, 0, b"kept")), (DONE, DONE));
     assert_eq!(m.receive(ANY_SENDER, ANY_CLASS, ANY_TAG, 0).no, DONE);
     assert_eq!(m.publish(0, b"x"), DONE);
     reads(&mut m, 0, &["x"]);
     assert_eq!(m.show(), b"kept");
     assert_eq!(m.yield_now(), DONE);
-    assert_eq!(m.next().id, 64);
+    assert_eq!(m.next().id, 256);
 }
 
 #[test]
@@ -293,10 +293,10 @@ fn exit_removes_subscriptions_and_the_next_in_its_slot_has_none() {
     assert_eq!((m.publish(0, b"old"), m.publish(1, b"old")), (DONE, DONE));
     assert_eq!(m.exit(65_532).no, DONE);
     assert_eq!(free_data(&mut m), 6);
-    assert_eq!(m.spawn(1).id, 128);
-    turn_of(&mut m, 65);
+    assert_eq!(m.spawn(1).id, 512);
+    turn_of(&mut m, 257);
     assert_eq!(m.subscribe(0), DONE);
-    turn(&mut m, 128);
+    turn(&mut m, 512);
     assert_eq!(read(&mut m, 1), Err(UNKNOWN));
     assert_eq!(m.unsubscribe(1), UNKNOWN);
     assert_eq!(m.subscribe(1), DONE);
@@ -338,7 +338,7 @@ fn refusals_in_their_order() {
     assert_eq!((m.publish(0, &[0; 252]), m.subscribe(0), m.unsubscribe(0)), (UNKNOWN, UNKNOWN, UNKNOWN));
     assert_eq!(read(&mut m, 0), Err(UNKNOWN));
     assert_eq!(m.bus(2, 1, 0, 0).no, DONE);
-    assert_eq!(m.notify(64, 0, b"x"), DONE);
+    assert_eq!(m.notify(256, 0, b"x"), DONE);
     assert_eq!(m.publish(0, &[0; 253]), MALFORMED);
     assert_eq!(m.publish(1, &[0; 252]), UNKNOWN);
     assert_eq!(m.publish(1 << 32, &[0; 252]), UNKNOWN);
@@ -354,7 +354,7 @@ fn refusals_in_their_order() {
 fn bus_entries_take_the_room_of_notices_and_ticks() {
     let mut m = lab([3, 8, 3, 4, 0, 1], 2);
     m.bus(3, 1, 0, 0);
-    assert_eq!((m.link(65), m.link(66)), (DONE, DONE));
+    assert_eq!((m.link(257), m.link(258)), (DONE, DONE));
     assert_eq!(m.after(0).no, DONE);
     for _ in 0..3 {
         assert_eq!(m.publish(0, b"x"), DONE);

@@ -50,7 +50,8 @@ fn show(part: &[u8]) -> Vec<u8> {
     Record { shape: Shape::of_name("show").unwrap(), args: vec![], answer: vec![Field::payload(part)] }.bytes()
 }
 
-const ANY: [i64; 3] = [4_294_967_295, 15, 134_217_727];
+/// Any sender is 2^64 - 1, which is -1 as a signed number.
+const ANY: [i64; 3] = [-1, 15, 134_217_727];
 
 fn receive(wait: i64, answer: &[i64]) -> Vec<u8> {
     call("receive", &[&ANY[..], &[wait]].concat(), answer)
@@ -60,34 +61,34 @@ fn receive(wait: i64, answer: &[i64]) -> Vec<u8> {
 fn run() -> Vec<Vec<u8>> {
     vec![
         start(40, 2_048, 0),
-        call("spawn", &[1], &[0, 64]),
-        call("spawn", &[1], &[0, 65]),
-        call("next", &[], &[0, 64, 0, 0]),
-        call("link", &[65], &[0]),
-        call("unlink", &[65], &[0]),
-        call("monitor", &[65], &[0, 128]),
+        call("spawn", &[1], &[0, 256]),
+        call("spawn", &[1], &[0, 257]),
+        call("next", &[], &[0, 256, 0, 0]),
+        call("link", &[257], &[0]),
+        call("unlink", &[257], &[0]),
+        call("monitor", &[257], &[0, 128]),
         call("demonitor", &[128], &[0]),
-        call("link", &[65], &[0]),
+        call("link", &[257], &[0]),
         call("every", &[1_000], &[0, 64]),
         call("cancel", &[64], &[0]),
         call("after", &[1_000], &[0, 128]),
-        notify(65, b"abc", 0),
-        notify(65, &[1; 253], 1),
+        notify(257, b"abc", 0),
+        notify(257, &[1; 253], 1),
         call("yield", &[], &[0]),
-        call("next", &[], &[0, 65, 0, 0]),
-        receive(0, &[0, 64, 0, 7, 3]),
+        call("next", &[], &[0, 257, 0, 0]),
+        receive(0, &[0, 256, 0, 7, 3]),
         show(b"abc"),
         call("shown", &[], &[0, 4, 3]),
         receive(-1, &[6, 0, 0, 0, 0]),
-        call("next", &[], &[0, 64, 0, 0]),
+        call("next", &[], &[0, 256, 0, 0]),
         receive(-1, &[6, 0, 0, 0, 0]),
         call("next", &[], &[6, 0, 0, 1_000]),
         call("advance", &[1_000], &[0, 1]),
-        call("next", &[], &[0, 64, 1, 0]),
+        call("next", &[], &[0, 256, 1, 0]),
         call("exit", &[65_533], &[0, 1, 0]),
         call("report", &[], &[0, 3, 7, 7, 4, 4, 4]),
         call("bus", &[2, 1, 0, 0], &[0, 0]),
-        call("next", &[], &[0, 65, 1, 0]),
+        call("next", &[], &[0, 257, 1, 0]),
         call("subscribe", &[0], &[0]),
         publish(0, b"21.5", 0),
         read(0, 3, 1, b""),
@@ -172,7 +173,7 @@ fn a_cut_is_told_at_every_byte() {
 #[test]
 fn a_kind_with_the_length_of_another_is_bad() {
     for other in SHAPES.iter().filter(|other| other.longest() != Shape::of_name("link").unwrap().longest()) {
-        let mut wrong = call("link", &[65], &[0]);
+        let mut wrong = call("link", &[257], &[0]);
         wrong[2..4].copy_from_slice(&other.kind.to_le_bytes());
         assert_eq!(verdict(&[&run()[..4].concat()[..], &wrong].concat()), Bad(4), "{}", other.name);
     }
@@ -221,16 +222,16 @@ fn an_answer_that_differs_in_any_field_is_bad() {
 #[test]
 fn a_payload_over_252_is_its_length_alone() {
     let before = run()[..4].concat();
-    let long = notify(65, &[9; 253], 1);
+    let long = notify(257, &[9; 253], 1);
     assert_eq!(long.len(), 4 + 3 * 8 + 8);
-    assert_eq!(long, notify(65, &[7; 253], 1));
+    assert_eq!(long, notify(257, &[7; 253], 1));
     assert_eq!(verdict(&[&before[..], &long].concat()), Ok(5));
-    assert_eq!(verdict(&[&before[..], &notify(65, &[9; 253], 0)].concat()), Bad(4));
+    assert_eq!(verdict(&[&before[..], &notify(257, &[9; 253], 0)].concat()), Bad(4));
     let mut longest = long.clone();
     longest[20..28].fill(255);
     assert_eq!(verdict(&[&before[..], &longest].concat()), Ok(5));
-    assert_eq!(verdict(&[&before[..], &notify(65, &[9; 252], 0)].concat()), Ok(5));
-    assert_eq!(notify(65, &[9; 252], 0).len(), trace::most());
+    assert_eq!(verdict(&[&before[..], &notify(257, &[9; 252], 0)].concat()), Ok(5));
+    assert_eq!(notify(257, &[9; 252], 0).len(), trace::most());
 }
 
 #[test]
@@ -262,9 +263,9 @@ fn what_is_published_is_recorded_as_a_message_is() {
 
 #[test]
 fn a_start_inside_the_trace_begins_anew_or_changes_nothing() {
-    let done = [run()[..4].concat(), start(40, 2_048, 0), call("spawn", &[0], &[0, 64])].concat();
+    let done = [run()[..4].concat(), start(40, 2_048, 0), call("spawn", &[0], &[0, 256])].concat();
     assert_eq!(verdict(&done), Ok(6));
-    let refused = [run()[..4].concat(), start(40, 2_047, 1), call("spawn", &[0], &[0, 66])].concat();
+    let refused = [run()[..4].concat(), start(40, 2_047, 1), call("spawn", &[0], &[0, 258])].concat();
     assert_eq!(verdict(&refused), Ok(6));
     assert_eq!(verdict(&[run()[..4].concat(), start(40, 2_047, 0)].concat()), Bad(4));
     assert_eq!(verdict(&[run()[..4].concat(), start(40, 2_048, 1)].concat()), Bad(4));

@@ -114,7 +114,7 @@ impl Document {
         Ok(self)
     }
 
-    /// What the document says of the largest capacities stands in it, as `5,016 words` and `65,536 bytes`.
+    /// What the document says of the largest capacities stands in it, as `6,936 words` and `65,536 bytes`.
     pub fn states(&self, largest: &[u64; 6]) -> Result<(), String> {
         for (amount, unit) in [(self.words, "words"), (self.bytes, "bytes")] {
             let number = amount.at(largest);

@@ -3,7 +3,7 @@
 //! compares all of them.
 
 use model::limits::*;
-use model::records::{reason_word, EXIT_BYTES, EXIT_KIND, TICK_BYTES, TICK_KIND};
+use model::records::*;
 use model::state::Reason;
 use model::trace;
 use numbers::document::Document;
@@ -36,13 +36,23 @@ fn needs(caps: &Capacities) -> [String; 4] {
     ]
 }
 
+/// How the C program begins: a number of 64 bits without a sign is printed as such, and every other as one with a sign.
+const C_BEGINS: &str = "#include <inttypes.h>
+#include <stdio.h>
+#include \"foamgangway.h\"
+
+static void print_unsigned(const char *name, uint64_t number) { printf(\"%s = %\" PRIu64 \"\\n\", name, number); }
+static void print_signed(const char *name, int64_t number) { printf(\"%s = %\" PRId64 \"\\n\", name, number); }
+#define PRINT(name, number) _Generic((number), uint64_t: print_unsigned, default: print_signed)(name, number)
+";
+
 /// The C program: a line `NAME = NUMBER` for each number.
 fn c_program() -> String {
     let names = header_names().into_iter().map(str::to_string);
     let needs = samples().iter().flat_map(needs).collect::<Vec<_>>();
-    let line = |name: String| format!("    printf(\"%s = %lld\\n\", \"{name}\", (long long)({name}));\n");
+    let line = |name: String| format!("    PRINT(\"{name}\", {name});\n");
     let lines: String = names.chain(needs).map(line).collect();
-    format!("#include <stdio.h>\n#include \"foamgangway.h\"\n\nint main(void)\n{{\n{lines}    return 0;\n}}\n")
+    format!("{C_BEGINS}\nint main(void)\n{{\n{lines}    return 0;\n}}\n")
 }
 
 /// What the C program printed.
@@ -96,6 +106,12 @@ fn limits() -> Vec<Limit> {
         ("FG_EXIT_OVERFLOW", "", reason("overflow")),
         ("FG_TICK_BYTES", "", TICK_BYTES as i128),
         ("FG_EXIT_BYTES", "", EXIT_BYTES as i128),
+        ("FG_KIND_TICK", "", TICK_KIND.into()),
+        ("FG_KIND_EXIT", "", EXIT_KIND.into()),
+        ("FG_OLD_TICK_BYTES", "", OLD_TICK_BYTES as i128),
+        ("FG_OLD_EXIT_BYTES", "", OLD_EXIT_BYTES as i128),
+        ("FG_KIND_OLD_TICK", "", OLD_TICK_KIND.into()),
+        ("FG_KIND_OLD_EXIT", "", OLD_EXIT_KIND.into()),
         ("FG_TRACE_MOST", "", trace::most() as i128),
         ("FG_WAIT_FOREVER", "", -1),
         ("FG_WAIT_NOT", "", 0),

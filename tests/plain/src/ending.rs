@@ -4,14 +4,16 @@ use crate::actors::FREE;
 use crate::answer::{require, Outcome};
 use crate::messages::Message;
 use crate::pools;
+use crate::rows::{Row, WIDE};
 use crate::tables::{Tables, ARRIVED, RUNNING};
 use model::limits::{EXIT, MAX_REASON, MONITOR_FACTOR};
+use model::records::EXIT_BYTES;
 use model::{Ended, DONE, MALFORMED};
 
 /// Class 4, written by the runtime, tag 0.
 pub const EXIT_HEADER: u32 = (EXIT as u32) << 28 | 1 << 27;
 /// What every exit notice's record begins with: the length of what follows, and the kind.
-const EXIT_OPENING: [u8; 4] = [0x0C, 0, 0x02, 0];
+const EXIT_OPENING: [u8; 4] = [0x14, 0, 0x04, 0];
 
 /// Ends the running actor.
 pub fn exit(tables: &mut Tables, me: usize, reason: u64) -> Outcome<Ended> {
@@ -57,23 +59,23 @@ fn free_mail(tables: &mut Tables, mail: usize) {
 /// The exit notices of one actor: all but the monitor's id is the same in each.
 struct Notices {
     sender: u64,
-    record: [u8; 14],
+    record: [u8; EXIT_BYTES],
     sent: u64,
     lost: u64,
 }
 
 impl Notices {
     fn new(sender: u64, reason: u64) -> Self {
-        let mut record = [0; 14];
+        let mut record = [0; EXIT_BYTES];
         record[..4].copy_from_slice(&EXIT_OPENING);
-        record[4..8].copy_from_slice(&(sender as u32).to_le_bytes());
-        record[8..10].copy_from_slice(&(reason as u16).to_le_bytes());
+        record[4..12].copy_from_slice(&sender.to_le_bytes());
+        record[12..14].copy_from_slice(&(reason as u16).to_le_bytes());
         Notices { sender, record, sent: 0, lost: 0 }
     }
 
     /// Tells the actor in a slot; the notice is lost where there is no room. The monitor is 0 for a link.
     fn tell(&mut self, tables: &mut Tables, slot: usize, monitor: u64) {
-        self.record[10..].copy_from_slice(&(monitor as u32).to_le_bytes());
+        self.record[14..].copy_from_slice(&monitor.to_le_bytes());
         let message = Message { sender: self.sender, header: EXIT_HEADER, payload: &self.record };
         if tables.deliver(slot, &message) {
             self.sent += 1;
@@ -85,19 +87,16 @@ impl Notices {
 
 /// Removes an actor's links in one pass, then tells the partners by ascending slot.
 fn cut_links(tables: &mut Tables, mine: u64, notices: &mut Notices) {
-    let mut partners = 0u64;
+    let mut partners = Row::<WIDE>::EMPTY;
     for entry in 0..tables.links.one.len() {
         let (one, two) = (tables.links.one[entry], tables.links.two[entry]);
         if one == mine || two == mine {
             // The end that is not the actor's own.
-            partners |= 1 << ((one ^ two ^ mine) - 1);
+            partners.add((one ^ two ^ mine) - 1);
             tables.links.remove(entry);
         }
     }
-    while partners != 0 {
-        notices.tell(tables, partners.trailing_zeros() as usize, 0);
-        partners &= partners - 1;
-    }
+    partners.each(|slot| notices.tell(tables, slot, 0));
 }
 
 /// Removes the monitors on an actor, by ascending slot, telling each watcher, and those by which it watches.

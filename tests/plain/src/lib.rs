@@ -15,6 +15,7 @@ mod buses;
 mod ending;
 mod messages;
 mod pools;
+mod rows;
 mod sound;
 mod start;
 mod tables;

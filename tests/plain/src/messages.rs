@@ -34,7 +34,7 @@ pub struct Filter {
 
 impl Filter {
     pub fn is_legal(&self) -> bool {
-        self.sender <= ANY_SENDER && self.tag <= ANY_TAG && (self.class <= LAST_CLASS || self.class == ANY_CLASS)
+        self.tag <= ANY_TAG && (self.class <= LAST_CLASS || self.class == ANY_CLASS)
     }
 
     pub fn matches(&self, sender: u64, header: u32) -> bool {

@@ -1,5 +1,5 @@
 //! The test of both buffers: the paragraph "Sound means" of document 01, in few passes over each column. What is counted as it goes:
-//! a mask of the actors in each state, a byte for each data entry that somebody holds, and who sits on each bus.
+//! a row of the actors in each state, a byte for each data entry that somebody holds, and who sits on each bus.
 //! Where several things are tested of one entry, they are joined by `&`, not by branches.
 
 use crate::actors::{FREE, RUNNABLE, RUNS, TIMEOUT, WAITS};
@@ -7,26 +7,28 @@ use crate::buses;
 use crate::ending::EXIT_HEADER;
 use crate::messages::{header_of, Filter, HEADER};
 use crate::pools::{all_free, count, is_free};
+use crate::rows::{Row, Square, PER_WORD, WIDE};
 use crate::tables::{Entry, Seats, Tables, ARRIVED, BUSES, CLOCK, ENTRY, ISSUED, QUEUED, RUNNING, SEATS, SPARE};
 use crate::timers::TICK_HEADER;
 use model::limits::*;
 use model::records::{EXIT_BYTES, TICK_BYTES};
+use std::ops::Range;
 
-/// Who is in which state, a bit for each slot.
-#[derive(Default)]
-struct Who {
-    runnable: u64,
-    running: u64,
-    waiting: u64,
-    live: u64,
+/// Who is in which state.
+struct Who<const W: usize> {
+    runnable: Row<W>,
+    running: Row<W>,
+    waiting: Row<W>,
+    live: Row<W>,
 }
 
-impl Who {
+impl<const W: usize> Who<W> {
+    const NOBODY: Self = Who { runnable: Row::EMPTY, running: Row::EMPTY, waiting: Row::EMPTY, live: Row::EMPTY };
+
     /// Does this word, a slot one up, name a live actor?
     #[inline]
     fn lives(&self, one_up: u64) -> bool {
-        let slot = one_up.wrapping_sub(1);
-        (slot < 64) & (self.live >> (slot % 64) & 1 == 1)
+        self.live.has(one_up.wrapping_sub(1))
     }
 
     /// Two words that name two different live actors?
@@ -37,12 +39,21 @@ impl Who {
 }
 
 /// Do the columns of these buffers keep every rule?
-#[inline(never)]
 pub fn is_sound(tables: &Tables) -> bool {
+    if tables.actors.state.len() <= PER_WORD {
+        is_sound_among::<1>(tables)
+    } else {
+        is_sound_among::<WIDE>(tables)
+    }
+}
+
+/// The same for a box whose rows of actors have so many words.
+#[inline(never)]
+fn is_sound_among<const W: usize>(tables: &Tables) -> bool {
     if !head(tables) || !in_range(tables) {
         return false;
     }
-    let Some(who) = actors(tables) else { return false };
+    let Some(who) = actors::<W>(tables) else { return false };
     let mut held = [0; 256];
     queue(tables, &who)
         && mailboxes(tables, &who, &mut held)
@@ -84,29 +95,50 @@ fn in_range(tables: &Tables) -> bool {
 }
 
 /// Every actor slot by itself. Answers who is in which state.
-fn actors(tables: &Tables) -> Option<Who> {
+fn actors<const W: usize>(tables: &Tables) -> Option<Who<W>> {
+    let mut who = Who::NOBODY;
+    let size = tables.actors.state.len();
+    for word in 0..W {
+        let [runnable, running, waiting] =
+            actors_of(tables, (PER_WORD * word).min(size)..(PER_WORD * (word + 1)).min(size))?;
+        who.runnable.0[word] = runnable;
+        who.running.0[word] = running;
+        who.waiting.0[word] = waiting;
+        who.live.0[word] = runnable | running | waiting;
+    }
+    Some(who)
+}
+
+/// These slots of some columns, in parts of one length.
+#[inline]
+fn parts<'a, const N: usize>(columns: [&'a [u64]; N], slots: &Range<usize>) -> [&'a [u64]; N] {
+    columns.map(|column| &column[slots.start..][..slots.len()])
+}
+
+/// The same for the slots of one word: who is runnable, who runs and who waits, a bit each.
+#[inline]
+fn actors_of(tables: &Tables, slots: Range<usize>) -> Option<[u64; 3]> {
     let a = &tables.actors;
-    let size = a.state.len();
-    let (states, priorities, reasons) = (&a.state[..size], &a.priority[..size], &a.reason[..size]);
-    let (ages, hands, deadlines) = (&a.age[..size], &a.hand[..size], &a.deadline[..size]);
-    let (senders, classes, tags) = (&a.want_sender[..size], &a.want_class[..size], &a.want_tag[..size]);
-    let mut who = Who::default();
-    for slot in 0..size {
+    let [states, priorities, reasons] = parts([a.state, a.priority, a.reason], &slots);
+    let [ages, hands, deadlines] = parts([a.age, a.hand, a.deadline], &slots);
+    let [senders, classes, tags] = parts([a.want_sender, a.want_class, a.want_tag], &slots);
+    let (mut runnable, mut running, mut waiting) = (0, 0, 0);
+    for slot in 0..slots.len() {
         let (state, reason, deadline) = (states[slot], reasons[slot], deadlines[slot]);
         let filter = Filter { sender: senders[slot], class: classes[slot], tag: tags[slot] };
         let wants = filter.sender | filter.class | filter.tag | deadline;
         let sound = match state {
             FREE => priorities[slot] | reason | hands[slot] | wants == 0,
             RUNNABLE => {
-                who.runnable |= 1 << slot;
+                runnable |= 1 << slot;
                 (ages[slot] != 0) & (reason <= TIMEOUT) & (wants == 0)
             }
             RUNS => {
-                who.running |= 1 << slot;
+                running |= 1 << slot;
                 (ages[slot] != 0) & (reason | wants == 0)
             }
             WAITS => {
-                who.waiting |= 1 << slot;
+                waiting |= 1 << slot;
                 (ages[slot] != 0) & (reason == 0) & filter.is_legal() & later(deadline, tables.head[CLOCK])
             }
             _ => false,
@@ -115,8 +147,7 @@ fn actors(tables: &Tables) -> Option<Who> {
             return None;
         }
     }
-    who.live = who.runnable | who.running | who.waiting;
-    Some(who)
+    Some([runnable, running, waiting])
 }
 
 /// No deadline, or one that is later than the clock and in range.
@@ -125,22 +156,42 @@ fn later(deadline: u64, clock: u64) -> bool {
 }
 
 /// The queue has each runnable slot once: as many words as there are such slots, and all of these. And the running slot is told.
-fn queue(tables: &Tables, who: &Who) -> bool {
+fn queue<const W: usize>(tables: &Tables, who: &Who<W>) -> bool {
     let queued = tables.head[QUEUED];
-    if queued != u64::from(who.runnable.count_ones()) {
+    if queued != who.runnable.count() {
         return false;
     }
     let (list, past) = tables.actors.queue.split_at(queued as usize);
-    let (found, all) = list.iter().fold((0, 0), |(found, all), &slot| (found | 1 << (slot % 64), all | slot));
-    let runner = tables.head[RUNNING];
-    let told = runner <= 64 && who.running == if runner == 0 { 0 } else { 1 << (runner - 1) };
-    all < 64 && found == who.runnable && told && !any_set(past)
+    are_all(list, &who.runnable) && runner_is_told(tables, who) && !any_set(past)
+}
+
+/// As many words as a row has slots: are they these, and so none twice?
+fn are_all<const W: usize>(list: &[u64], row: &Row<W>) -> bool {
+    if W == 1 {
+        let (mut found, mut all) = (Row::EMPTY, 0);
+        for &slot in list {
+            found.add(slot);
+            all |= slot;
+        }
+        return all < PER_WORD as u64 && found == *row;
+    }
+    // A byte for each slot: in a row of several words, which is in memory, each slot would wait for the one before.
+    let mut seen = [0; 256];
+    list.iter().fold(true, |good, &slot| good & row.has(slot) & (mark(&mut seen, slot as usize) == 0))
+}
+
+/// Nobody runs and none is told, or the only one that runs is.
+fn runner_is_told<const W: usize>(tables: &Tables, who: &Who<W>) -> bool {
+    match tables.head[RUNNING] {
+        0 => who.running.is_empty(),
+        runner => who.running.has(runner - 1) && who.running.count() == 1,
+    }
 }
 
 /// The arrivals have each mailbox entry in use once; each is in a live actor's mailbox and has a data entry of its own, and no
 /// waiting actor's filter matches what it holds. All other entries are zero. An entry that arrived twice holds its data entry twice.
 #[inline(never)] // By itself its loop has more registers.
-fn mailboxes(tables: &Tables, who: &Who, held: &mut [u8; 256]) -> bool {
+fn mailboxes<const W: usize>(tables: &Tables, who: &Who<W>, held: &mut [u8; 256]) -> bool {
     let size = tables.mails.owner.len();
     let (owners, datas) = (&tables.mails.owner[..size], &tables.mails.data[..size]);
     let arrived = size - count(tables.mail_free) as usize;
@@ -160,7 +211,7 @@ fn mailboxes(tables: &Tables, who: &Who, held: &mut [u8; 256]) -> bool {
             return false;
         }
         again |= mark(held, data as usize);
-        if who.waiting >> (owner - 1) & 1 == 1 && waits_for(tables, owner as usize - 1, data as usize) {
+        if who.waiting.has(owner - 1) && waits_for(tables, owner as usize - 1, data as usize) {
             return false;
         }
     }
@@ -208,7 +259,7 @@ fn published(entry: &Entry, sender: u64, length: u64) -> bool {
 
 /// The buses that are made have settings in range, live subscribers and no more values than they can have; the others are all zero. The row of
 /// values has each once.
-fn values(tables: &Tables, who: &Who, held: &mut [u8; 256]) -> bool {
+fn values<const W: usize>(tables: &Tables, who: &Who<W>, held: &mut [u8; 256]) -> bool {
     let (made, issued) = (tables.head[BUSES] as usize, tables.head[ISSUED] as usize);
     if tables.head[BUSES] > MAX_BUSES as u64 || tables.head[ISSUED] > tables.datas.issue.len() as u64 {
         return false;
@@ -233,19 +284,18 @@ fn unmade(tables: &Tables, made: usize) -> bool {
 }
 
 /// Settings in range, and live actors, none twice, in the seats that the bus has. Tells who sits there.
-fn bus_is_sound(tables: &Tables, who: &Who, bus: usize, audiences: &mut [u64; MAX_BUSES]) -> bool {
+fn bus_is_sound<const W: usize>(tables: &Tables, who: &Who<W>, bus: usize, audiences: &mut [u64; MAX_BUSES]) -> bool {
     let b = &tables.buses;
     let in_range = buses::in_range(b.size[bus], b.limit[bus], b.reads[bus], b.age[bus]);
     audiences[bus] = buses::audience(&b.seats[bus]);
     in_range && audiences[bus] >> SEATS >> b.limit[bus] == 0 && seated(&b.seats[bus], who)
 }
 
-fn seated(seats: &Seats, who: &Who) -> bool {
-    let (mut found, mut good) = (0u64, true);
-    for &slot in seats.iter().filter(|&&slot| slot != 0) {
-        let bit = 1 << (slot - 1) % 64;
-        good &= who.lives(slot) & (found & bit == 0);
-        found |= bit;
+fn seated<const W: usize>(seats: &Seats, who: &Who<W>) -> bool {
+    let (mut found, mut good) = (Row::<W>::EMPTY, true);
+    for &one_up in seats.iter().filter(|&&one_up| one_up != 0) {
+        good &= who.lives(one_up) & !found.has(one_up - 1);
+        found.add(one_up - 1);
     }
     good
 }
@@ -323,28 +373,28 @@ fn zero_from(entry: &Entry, from: usize) -> bool {
 }
 
 /// Links join two different live actors, no pair twice.
-fn links(tables: &Tables, who: &Who) -> bool {
-    let (mut partners, mut good) = ([0u64; 64], true);
+fn links<const W: usize>(tables: &Tables, who: &Who<W>) -> bool {
+    let (mut partners, mut good) = (Square::<W>::EMPTY, true);
     for (&one, &two) in tables.links.one.iter().zip(&*tables.links.two) {
         if one | two != 0 {
-            // Stored one up, so a slot of 64 is row 0.
-            let (row, bit) = (one.min(two) as usize % 64, one.max(two) % 64);
-            good &= who.join(one, two) & (partners[row] >> bit & 1 == 0);
-            partners[row] |= 1 << bit;
+            let (low, high) = (one.min(two).wrapping_sub(1), one.max(two) - 1);
+            let row = partners.row(low);
+            good &= who.join(one, two) & !row.has(high);
+            row.add(high);
         }
     }
     good
 }
 
 /// Monitors join two different live actors, and have an age.
-fn monitors(tables: &Tables, who: &Who) -> bool {
+fn monitors<const W: usize>(tables: &Tables, who: &Who<W>) -> bool {
     let ends = tables.monitors.watcher.iter().zip(&*tables.monitors.watched);
     let mut slots = ends.zip(&*tables.monitors.age);
     slots.all(|((&watcher, &watched), &age)| watcher | watched == 0 || (age != 0) & who.join(watcher, watched))
 }
 
 /// Timers have live owners and an age; a periodic one's interval is not too short.
-fn timers(tables: &Tables, who: &Who) -> bool {
+fn timers<const W: usize>(tables: &Tables, who: &Who<W>) -> bool {
     let times = tables.timers.due.iter().zip(&*tables.timers.interval);
     let mut slots = tables.timers.owner.iter().zip(&*tables.timers.age).zip(times);
     slots.all(|((&owner, &age), (&due, &interval))| {

@@ -1,8 +1,10 @@
 //! Damage to several words at once that breaks one rule alone: report answers 7. Damage to one word or byte is done by the differential test.
 
+mod common;
+
+use common::Runtime;
 use model::limits::*;
-use model::{Report, DONE, UNSOUND, WAITING};
-use plain::boundary;
+use model::{DONE, WAITING};
 
 /// Every pool has so many entries, so that all columns from STATE on are of one size.
 const EACH: usize = 4;
@@ -28,37 +30,25 @@ const ISSUE: usize = 18;
 const LINK_ONE: usize = 19;
 const LINK_TWO: usize = 20;
 
-/// Makes a call of plain Rust on a runtime's buffers.
-macro_rules! call {
-    ($runtime:expr, $name:ident $(, $arg:expr)*) => {{
-        let (words, bytes) = (&mut $runtime.words, &mut $runtime.bytes);
-        // SAFETY: pointers and lengths come from live slices that do not overlap.
-        unsafe { boundary::$name(words.as_mut_ptr(), words.len(), bytes.as_mut_ptr(), bytes.len() $(, $arg)*) }
-    }};
-}
-
-struct Runtime {
-    words: Vec<u64>,
-    bytes: Vec<u8>,
-}
-
-impl Runtime {
-    /// Three actors; the first runs, and two messages of its own are queued, with tags 1 and 2.
-    fn new() -> Self {
-        let (words, bytes) = plain::needed(&[EACH; 6]);
-        let mut r = Runtime { words: vec![0; words], bytes: vec![0; bytes] };
-        let each = EACH as u64;
-        assert_eq!(call!(r, start, each, each, each, each, each, each), DONE);
-        for id in ACTOR_FACTOR..ACTOR_FACTOR + 3 {
-            assert_eq!(call!(r, spawn, 1).id, id);
-        }
-        assert_eq!(call!(r, next).id, ACTOR_FACTOR);
-        for tag in [1, 2] {
-            assert_eq!(call!(r, notify, ACTOR_FACTOR, tag, [7; 5].as_ptr(), 5), DONE);
-        }
-        r
+/// Three actors; the first runs, and two messages of its own are queued, with tags 1 and 2.
+fn running() -> Runtime {
+    let mut r = Runtime::start([EACH as u64; 6]);
+    for id in ACTOR_FACTOR..ACTOR_FACTOR + 3 {
+        assert_eq!(call!(r, spawn, 1).id, id);
     }
+    assert_eq!(call!(r, next).id, ACTOR_FACTOR);
+    for tag in [1, 2] {
+        assert_eq!(call!(r, notify, ACTOR_FACTOR, tag, [7; 5].as_ptr(), 5), DONE);
+    }
+    r
+}
 
+trait Columns {
+    fn word(&mut self, column: usize, entry: usize) -> &mut u64;
+    fn free_second_message(&mut self);
+}
+
+impl Columns for Runtime {
     fn word(&mut self, column: usize, entry: usize) -> &mut u64 {
         &mut self.words[STATE + EACH * column + entry]
     }
@@ -70,21 +60,11 @@ impl Runtime {
         *self.word(LENGTH, 1) = 0;
         self.bytes[256..512].fill(0);
     }
-
-    fn is_sound(&mut self) -> bool {
-        match call!(self, report) {
-            Report { no: DONE, .. } => true,
-            report => {
-                assert_eq!(report, Report { no: UNSOUND, free: [0; 6] });
-                false
-            }
-        }
-    }
 }
 
 #[test]
 fn another_mailbox_entry_is_free_than_the_one_that_arrived() {
-    let mut r = Runtime::new();
+    let mut r = running();
     assert_eq!(r.words[MAIL_FREE], 0b1100);
     assert!(r.is_sound());
     r.words[MAIL_FREE] = 0b0101;
@@ -93,7 +73,7 @@ fn another_mailbox_entry_is_free_than_the_one_that_arrived() {
 
 #[test]
 fn two_messages_share_a_data_entry() {
-    let mut r = Runtime::new();
+    let mut r = running();
     assert!(r.is_sound());
     r.free_second_message();
     *r.word(MAIL_DATA, 1) = *r.word(MAIL_DATA, 0);
@@ -102,7 +82,7 @@ fn two_messages_share_a_data_entry() {
 
 #[test]
 fn a_message_arrived_twice_and_another_not_at_all() {
-    let mut r = Runtime::new();
+    let mut r = running();
     assert!(r.is_sound());
     r.free_second_message();
     *r.word(ARRIVAL, 1) = *r.word(ARRIVAL, 0);
@@ -112,7 +92,7 @@ fn a_message_arrived_twice_and_another_not_at_all() {
 #[test]
 fn a_pair_is_linked_twice() {
     for turned in [false, true] {
-        let mut r = Runtime::new();
+        let mut r = running();
         assert_eq!(call!(r, link, ACTOR_FACTOR + 1), DONE);
         let (one, two) = (*r.word(LINK_ONE, 0), *r.word(LINK_TWO, 0));
         (*r.word(LINK_ONE, 2), *r.word(LINK_TWO, 2)) = (one, 3);
@@ -124,7 +104,7 @@ fn a_pair_is_linked_twice() {
 
 #[test]
 fn a_waiting_actor_has_what_it_waits_for() {
-    let mut r = Runtime::new();
+    let mut r = running();
     assert_eq!(call!(r, receive, ANY_SENDER, NOTIFY, 3, -1).no, WAITING);
     assert!(r.is_sound());
     for (tag, sound) in [(1, false), (2, false), (3, true), (4, true), (ANY_TAG, false)] {
@@ -135,7 +115,7 @@ fn a_waiting_actor_has_what_it_waits_for() {
 
 /// The same, with two buses, to both of which the first actor is subscribed. The values, in data entries 2 and 3, are the first bus's.
 fn with_buses() -> Runtime {
-    let mut r = Runtime::new();
+    let mut r = running();
     for number in [0, 1] {
         assert_eq!(call!(r, bus, 2, 2, 0, 0).id, number);
         assert_eq!(call!(r, subscribe, number), DONE);

@@ -1,12 +1,13 @@
 //! The library and plain Rust side by side, through the same C boundary, in one process: nanoseconds a call, and how many times as long the
 //! library takes. Before anything is timed both sides make the same calls, and their answers, words and bytes are compared.
 //!
-//! `speed` prints all tables. `speed check` measures the bench run with full pools alone, and fails where the library takes more than 1.5
-//! times as long, or more than another number that is given.
+//! `speed` prints all tables. `speed actors` prints the one of boxes that differ in the number of actors alone. `speed check` measures the bench run
+//! with full pools alone, and fails where the library takes more than 1.5 times as long, or more than another number that is given.
 //!
 //! How full the pools are: `empty`, but for the actor that runs; `one of each`, an actor with a timer, a link, a monitor, a message in its hand and
 //! one in its mailbox, and a bus that it can read from, and two actors more; `one left`, all pools full but for one entry of each; `full`.
 
+mod crowds;
 mod rounds;
 #[cfg(not(self_test))]
 mod searches;
@@ -26,8 +27,8 @@ use timing::{measure, Effort, Times};
 const MOST: f64 = 1.5;
 
 const SMALL: Capacities = [4; 6];
-const QUARTER: Capacities = [16, 64, 64, 32, 32, 16];
-const HALF: Capacities = [32, 128, 128, 64, 64, 32];
+const QUARTER: Capacities = [64, 64, 64, 32, 32, 16];
+const HALF: Capacities = [128, 128, 128, 64, 64, 32];
 
 /// A measured row, and a row that decides.
 const ROW: Effort = Effort { time: Duration::from_millis(60), least: 20, most: 2_000 };
@@ -50,9 +51,14 @@ fn heading(title: &str) {
 
 /// Measures one call on a stage, once both sides agree on it, and prints its row.
 fn row(stage: &Stage, pools: &str, call: Call) {
+    row_of(stage, size(&stage.capacities), pools, call);
+}
+
+/// The same for a box that is named otherwise than by its size.
+fn row_of(stage: &Stage, size: &str, pools: &str, call: Call) {
     let no = stage.clone().make(call).no();
     let times = measure(stage, &[call], &ROW);
-    let (name, size) = (call.name(), size(&stage.capacities));
+    let name = call.name();
     println!("| {name} | {size} | {pools} | {no} | {:.0} | {:.0} | {:.2} |", times.library, times.plain, times.ratio);
 }
 
@@ -124,16 +130,16 @@ fn print_every_call() {
 fn print_worst_calls() {
     heading("The calls that take longest");
     let receive = |tag| Call::Receive(ANY_SENDER, NOTIFY, tag, 0);
-    row(&worst::everything_its_own(), "all its own: 256 messages, 63 links, 128 monitors, 64 timers", Call::Exit(0));
+    row(&worst::everything_its_own(), "all its own: 256 messages, 128 links, 128 monitors, 64 timers", Call::Exit(0));
     row(&worst::few_messages_its_own(), "the same, but 254 messages are others'", Call::Exit(0));
     row(&worst::timers_armed(0), "64 timers due", Call::Advance(2_000));
     row(&worst::timers_armed(192), "64 timers due, 192 messages", Call::Advance(2_000));
     row(&worst::timers_armed(256), "64 timers due, 256 messages", Call::Advance(2_000));
     row(&worst::metronomes_armed(), "64 metronomes due, most beats missed", Call::Advance(MAX_STEP));
-    row(&worst::deadlines_near(), "63 deadlines over, 256 messages", Call::Advance(1_000_000));
+    row(&worst::deadlines_near(), "255 deadlines over, 256 messages", Call::Advance(1_000_000));
     row(&worst::match_is_last(), "the match is the last of 256 messages", receive(1));
     row(&worst::match_is_last(), "no match among 256 messages", receive(2));
-    row(&worst::all_queued(), "64 actors queued", Call::Next);
+    row(&worst::all_queued(), "256 actors queued", Call::Next);
     let buses = "32 buses, 1,024 subscriptions, 256 entries";
     let full = worst::buses_full();
     for call in [Call::Publish(15, 8), Call::Read(15), Call::Unsubscribe(15), Call::Exit(0)] {
@@ -179,6 +185,7 @@ fn print_all() -> ExitCode {
     print_worst_calls();
     print_far_up();
     print_pure_test();
+    crowds::print();
     #[cfg(not(self_test))]
     searches::print();
     ExitCode::SUCCESS
@@ -192,10 +199,14 @@ fn main() -> ExitCode {
     let most = |word: &str| word.parse::<f64>().ok();
     match words.iter().map(String::as_str).collect::<Vec<_>>()[..] {
         [] => print_all(),
+        ["actors"] => {
+            crowds::print();
+            ExitCode::SUCCESS
+        }
         ["check"] => check(MOST),
         ["check", word] if most(word).is_some() => check(most(word).unwrap_or(MOST)),
         _ => {
-            eprintln!("speed | speed check [MOST]");
+            eprintln!("speed | speed actors | speed check [MOST]");
             ExitCode::from(2)
         }
     }

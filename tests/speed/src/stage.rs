@@ -27,6 +27,9 @@ impl Buffers {
     }
 }
 
+/// So many of the actors, the first ones, have messages where all pools are full: several each at the largest capacities.
+const RECIPIENTS: u64 = 64;
+
 #[derive(Clone)]
 pub struct Stage {
     pub capacities: Capacities,
@@ -127,19 +130,20 @@ impl Stage {
         stage
     }
 
-    /// Every pool is full but for `left` entries: messages of many lengths in all mailboxes and in some hands, some actors waiting, links,
-    /// monitors and timers of all, and a bus on which nothing stands. The first actor runs.
+    /// Every pool is full but for `left` entries: messages of many lengths in the mailboxes of the first actors and in some hands, some actors waiting,
+    /// links, monitors and timers, and a bus on which nothing stands. The first actor runs.
     pub fn full(capacities: Capacities, left: u64) -> Self {
         let [actors, mailboxes, data, ..] = capacities;
         let mut stage = Stage::with_actors(capacities, actors - left);
+        let recipients = (actors - left).min(RECIPIENTS);
         for number in 0..mailboxes.min(data) - left {
             let length = (number * 37 % 253) as usize;
-            stage.done(Call::Notify(Stage::id(number % (actors - left)), 1 + number % 5, length));
+            stage.done(Call::Notify(Stage::id(number % recipients), 1 + number % 5, length));
         }
         stage.fill_ties(left);
         for slot in 1..actors - left {
             match slot % 8 {
-                3 => {
+                3 if slot < recipients => {
                     stage.done(receive_any());
                 }
                 2 => stage.wait_in_vain(-1),

@@ -12,19 +12,22 @@ fn send(stage: &mut Stage, count: u64, to_others: bool) {
     }
 }
 
-/// All actors; the first runs, with 63 links, 64 timers, 64 monitors by it and 64 on it.
+/// All actors; the first runs, with all links and timers, half of the monitors by it and half on it.
 fn tied() -> Stage {
     let mut stage = Stage::with_actors(LARGEST, LARGEST[0]);
-    for number in 0..LARGEST[0] {
-        let other = Stage::id(1 + number % (LARGEST[0] - 1));
-        stage.done(Call::Link(other));
-        stage.done(Call::Monitor(other));
+    let [actors, _, _, links, monitors, timers] = LARGEST;
+    for number in 0..links {
+        stage.done(Call::Link(Stage::id(1 + number)));
+    }
+    for number in 0..monitors / 2 {
+        stage.done(Call::Monitor(Stage::id(1 + number)));
+    }
+    for number in 0..timers {
         stage.done(Call::Every(1_000_000 + number));
     }
-    for slot in 1..LARGEST[0] {
+    for slot in 1..actors {
         stage.turn();
-        stage.done(Call::Monitor(Stage::id(0)));
-        if slot == 1 {
+        if slot <= monitors / 2 {
             stage.done(Call::Monitor(Stage::id(0)));
         }
     }
@@ -37,7 +40,7 @@ pub fn everything_its_own() -> Stage {
     let mut stage = tied();
     send(&mut stage, LARGEST[1], false);
     stage.done(receive_any());
-    stage.expect_free([0, 0, LARGEST[3] - 63, 0, 0]);
+    stage.expect_free([0; 5]);
     stage
 }
 
@@ -46,7 +49,7 @@ pub fn few_messages_its_own() -> Stage {
     let mut stage = tied();
     send(&mut stage, 2, false);
     send(&mut stage, LARGEST[1] - 2, true);
-    stage.expect_free([0, 0, LARGEST[3] - 63, 0, 0]);
+    stage.expect_free([0; 5]);
     stage
 }
 
@@ -75,7 +78,7 @@ pub fn deadlines_near() -> Stage {
     let mut stage = Stage::with_actors(LARGEST, LARGEST[0]);
     send(&mut stage, LARGEST[1], true);
     for slot in 0..LARGEST[0] - 1 {
-        stage.make(Call::Receive(ANY_SENDER, NOTIFY, 9, 100 - slot as i64));
+        stage.make(Call::Receive(ANY_SENDER, NOTIFY, 9, 300 - slot as i64));
         stage.done(Call::Next);
     }
     stage
@@ -109,7 +112,7 @@ fn publish_all(stage: &mut Stage) {
     }
 }
 
-/// Half of all actors are subscribed to all buses, and every data entry is a bus's. The first actor runs, which has read nothing.
+/// As many actors as a bus has seats are subscribed to all buses, and every data entry is a bus's. The first actor runs, which has read nothing.
 pub fn buses_full() -> Stage {
     let mut stage = Stage::with_actors(LARGEST, LARGEST[0]);
     for _ in 0..MAX_BUSES {

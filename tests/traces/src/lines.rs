@@ -1,8 +1,8 @@
 //! One record as a line: the call's name, its arguments, `=`, its answer.
 //!
-//!     spawn 1 = 0 64
-//!     notify 65 7 "abc" = 0
-//!     notify 65 7 long 300 = 1
+//!     spawn 1 = 0 256
+//!     notify 257 7 "abc" = 0
+//!     notify 257 7 long 300 = 1
 //!     show = "abc"
 
 use crate::words::{quote, Word};

@@ -34,8 +34,8 @@ fn a_text_written_from_bytes_gives_the_bytes() {
 
 #[test]
 fn a_line_is_written_as_it_is_read() {
-    let lines = "start 1324 2048 4 8 8 4 4 4 = 0\nnotify 65 7 \"a\\\"b\\\\c\\x00 \" = 0\nnotify 65 7 long 253 = 1\n\
-        receive 4294967295 15 134217727 -1 = 6 0 0 0 0\nnext = 6 0 0 -1\nshow = \"\"\nspawn 18446744073709551615 = 1 0\n\
+    let lines = "start 1324 2048 4 8 8 4 4 4 = 0\nnotify 257 7 \"a\\\"b\\\\c\\x00 \" = 0\nnotify 257 7 long 253 = 1\n\
+        receive 18446744073709551615 15 134217727 -1 = 6 0 0 0 0\nnext = 6 0 0 -1\nshow = \"\"\nspawn 18446744073709551615 = 1 0\n\
         bus 2 1 0 2147483647 = 0 0\npublish 0 \"21.5\" = 0\npublish 0 long 253 = 1\nread 0 252 = 0 \"21.5\"\nread 0 3 = 1 \"\"\n\
         raw 02 00 01 00\nraw 00\n";
     assert_eq!(to_text(&to_bytes(lines).unwrap()), lines);
@@ -44,12 +44,12 @@ fn a_line_is_written_as_it_is_read() {
 #[test]
 fn an_error_names_its_line() {
     for (line, what) in [
-        ("spwan 1 = 0 64", "spwan is no call"),
-        ("spawn 1 0 64", "= is missing"),
-        ("spawn one = 0 64", "\"one\" is no number"),
+        ("spwan 1 = 0 256", "spwan is no call"),
+        ("spawn 1 0 256", "= is missing"),
+        ("spawn one = 0 256", "\"one\" is no number"),
         ("spawn 1 = 0", "the line is too short"),
         ("yield = 0 0", "the answer is too long"),
-        ("notify 65 7 3 = 0", "a payload is missing"),
+        ("notify 257 7 3 = 0", "a payload is missing"),
         ("show = \"abc", "a quote is not closed"),
         ("read 0 252 = 5", "the line is too short"),
         ("raw 100", "\"100\" is no byte"),
