@@ -37,18 +37,19 @@ enum fg_number {
 };
 
 /* Capacities: actors, mailbox entries and data entries from 1, the others from 0. */
-#define FG_MAX_ACTORS 64
+#define FG_MAX_ACTORS 256
 #define FG_MAX_MAILBOXES 256
 #define FG_MAX_DATA 256
 #define FG_MAX_LINKS 128
 #define FG_MAX_MONITORS 128
 #define FG_MAX_TIMERS 64
 
-/* An actor or timer id is age * 64 + slot, a monitor id age * 128 + slot; 0 is never an id. */
-#define FG_ACTOR_FACTOR 64
+/* An actor id is age * 256 + slot, a timer id age * 64 + slot, a monitor id age * 128 + slot; 0 is never an id. A slot's age
+ * counts its uses. After the last one, of age FG_MAX_AGE, it is worn and not used again. Ids need 64 bits. */
+#define FG_ACTOR_FACTOR 256
 #define FG_TIMER_FACTOR 64
 #define FG_MONITOR_FACTOR 128
-#define FG_MAX_AGE 33000000
+#define FG_MAX_AGE (UINT64_C(1) << 40)
 
 #define FG_MAX_PRIORITY 3                     /* 0 is first */
 #define FG_MAX_PAYLOAD 252                    /* bytes of a message */
@@ -67,8 +68,9 @@ enum fg_number {
 #define FG_MAX_READS 32
 #define FG_MAX_BUS_AGE 2147483647             /* milliseconds */
 
-/* A filter of fg_receive that takes any sender, class, tag. */
-#define FG_ANY_SENDER UINT64_C(4294967295)
+/* A filter of fg_receive that takes any sender, class, tag. Every other number may be asked for as a sender, also 4294967295,
+ * which meant any in the old edition. */
+#define FG_ANY_SENDER UINT64_C(18446744073709551615)
 #define FG_ANY_CLASS 15
 #define FG_ANY_TAG 134217727
 
@@ -95,9 +97,17 @@ enum fg_number {
 #define FG_EXIT_OVERFLOW 65535
 #define FG_MAX_REASON 65535
 
-/* Bytes of the records in runtime messages. */
-#define FG_TICK_BYTES 8
-#define FG_EXIT_BYTES 14
+/* Bytes of the records in runtime messages, and their kinds. */
+#define FG_TICK_BYTES 12
+#define FG_EXIT_BYTES 22
+#define FG_KIND_TICK 3
+#define FG_KIND_EXIT 4
+
+/* Those of the old edition, with ids of 32 bits, which this runtime does not write. */
+#define FG_OLD_TICK_BYTES 8
+#define FG_OLD_EXIT_BYTES 14
+#define FG_KIND_OLD_TICK 1
+#define FG_KIND_OLD_EXIT 2
 
 /* Bytes of the longest record of a trace. */
 #define FG_TRACE_MOST 288
@@ -131,8 +141,11 @@ struct fg_advanced { uint64_t no, fired; };
 /* Free counts: actors, mailbox entries, data entries, links, monitors, timers. */
 struct fg_counts { uint64_t no, free[6]; };
 struct fg_copied { uint64_t no, length; };
-struct fg_tick_record { uint64_t no; uint32_t id; };
-struct fg_exit_record { uint64_t no; uint32_t actor; uint16_t reason; uint32_t monitor; };
+/* `kind` says which edition was read: FG_KIND_TICK or FG_KIND_OLD_TICK, FG_KIND_EXIT or FG_KIND_OLD_EXIT. */
+struct fg_tick_record { uint64_t no; uint16_t kind; uint64_t id; };
+struct fg_exit_record { uint64_t no; uint16_t kind; uint64_t actor; uint16_t reason; uint64_t monitor; };
+struct fg_old_tick_record { uint64_t no; uint32_t id; };
+struct fg_old_exit_record { uint64_t no; uint32_t actor; uint16_t reason; uint32_t monitor; };
 /* The letters of a word, `len` of them, no zero at the end. */
 struct fg_word { uint8_t bytes[8]; size_t len; };
 
@@ -217,17 +230,24 @@ uint64_t fg_unsubscribe(FG_BUFFERS, uint64_t bus);
  * FG_NOTHING where there is nothing new. FG_MALFORMED where `out` is too short, and the entry stays unread. */
 struct fg_copied fg_read(FG_BUFFERS, uint64_t bus, uint8_t *out, size_t out_len);
 
-/* Writes the record of a tick, 8 bytes; FG_MALFORMED where the slice is shorter. */
-uint64_t fg_write_tick(uint8_t *out, size_t len, uint32_t id);
+/* Writes the record of a tick, FG_TICK_BYTES; FG_MALFORMED where the slice is shorter. */
+uint64_t fg_write_tick(uint8_t *out, size_t len, uint64_t id);
 
-/* Reads the record of a tick; FG_MALFORMED unless size, length and kind are exactly a tick's. */
+/* Reads the record of a tick, of either edition; FG_MALFORMED unless size, length and kind are exactly a tick's. */
 struct fg_tick_record fg_read_tick(const uint8_t *bytes, size_t len);
 
-/* Writes the record of an exit notice, 14 bytes; FG_MALFORMED where the slice is shorter. */
-uint64_t fg_write_exit(uint8_t *out, size_t len, uint32_t actor, uint16_t reason, uint32_t monitor);
+/* Writes the record of an exit notice, FG_EXIT_BYTES; FG_MALFORMED where the slice is shorter. */
+uint64_t fg_write_exit(uint8_t *out, size_t len, uint64_t actor, uint16_t reason, uint64_t monitor);
 
-/* Reads the record of an exit notice; `monitor` is 0 in the notice of a link. */
+/* Reads the record of an exit notice, of either edition; `monitor` is 0 in the notice of a link. */
 struct fg_exit_record fg_read_exit(const uint8_t *bytes, size_t len);
+
+/* The same four as they were in the old edition, for boxes that still speak it: FG_OLD_TICK_BYTES and FG_OLD_EXIT_BYTES, and ids
+ * of 32 bits. These readers refuse the kinds of today with FG_MALFORMED. */
+uint64_t fg_write_old_tick(uint8_t *out, size_t len, uint32_t id);
+struct fg_old_tick_record fg_read_old_tick(const uint8_t *bytes, size_t len);
+uint64_t fg_write_old_exit(uint8_t *out, size_t len, uint32_t actor, uint16_t reason, uint32_t monitor);
+struct fg_old_exit_record fg_read_old_exit(const uint8_t *bytes, size_t len);
 
 /* The word of an exit reason: app, normal, crash, killed or overflow. */
 struct fg_word fg_reason_word(uint16_t reason);
@@ -288,7 +308,7 @@ size_t fg_trace_unsubscribe(FG_RECORD, uint64_t bus, uint64_t no);
 size_t fg_trace_read(FG_RECORD, uint64_t bus, uint64_t room, uint64_t no, const uint8_t *bytes, size_t bytes_len);
 
 /* Judges record number n of a trace, counted from 0: true where it is right on these buffers, and its call is
- * then made on them. Where it is not, nothing after it can be judged, and the buffers may have changed. 6,144
+ * then made on them. Where it is not, nothing after it can be judged, and the buffers may have changed. 8,192
  * words and 65,536 bytes are long enough for every trace. */
 bool fg_replay(FG_BUFFERS, uint64_t n, const uint8_t *record, size_t record_len);
 

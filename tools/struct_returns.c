@@ -58,12 +58,32 @@ struct fg_counts fg_report(FG_BUFFERS)
 }
 #endif
 
+#ifdef HAVE_fg_read_tick
+void fg_read_tick_into(struct fg_tick_record *out, const uint8_t *bytes, size_t len);
+struct fg_tick_record fg_read_tick(const uint8_t *bytes, size_t len)
+{
+    struct fg_tick_record out;
+    fg_read_tick_into(&out, bytes, len);
+    return out;
+}
+#endif
+
 #ifdef HAVE_fg_read_exit
 void fg_read_exit_into(struct fg_exit_record *out, const uint8_t *bytes, size_t len);
 struct fg_exit_record fg_read_exit(const uint8_t *bytes, size_t len)
 {
     struct fg_exit_record out;
     fg_read_exit_into(&out, bytes, len);
+    return out;
+}
+#endif
+
+#ifdef HAVE_fg_read_old_exit
+void fg_read_old_exit_into(struct fg_old_exit_record *out, const uint8_t *bytes, size_t len);
+struct fg_old_exit_record fg_read_old_exit(const uint8_t *bytes, size_t len)
+{
+    struct fg_old_exit_record out;
+    fg_read_old_exit_into(&out, bytes, len);
     return out;
 }
 #endif

@@ -41,7 +41,7 @@ static struct fg_exit_record exit_in_hand(void)
     return notice;
 }
 
-static uint32_t tick_in_hand(void)
+static uint64_t tick_in_hand(void)
 {
     size_t len;
     const uint8_t *bytes = payload_in_hand(&len);
@@ -54,11 +54,11 @@ static uint32_t tick_in_hand(void)
 static void print_notice(struct fg_exit_record notice)
 {
     struct fg_word word = fg_reason_word(notice.reason);
-    printf("%" PRIu32 " has ended (%.*s), ", notice.actor, (int)word.len, (const char *)word.bytes);
+    printf("%" PRIu64 " has ended (%.*s), ", notice.actor, (int)word.len, (const char *)word.bytes);
     if (notice.monitor == 0)
         printf("by link\n");
     else
-        printf("by monitor %" PRIu32 "\n", notice.monitor);
+        printf("by monitor %" PRIu64 "\n", notice.monitor);
 }
 
 /* ---- The heater: warms up at every tick and tells the watchdog. ---- */
@@ -77,7 +77,7 @@ static void heater_tick(struct track *self)
     self->degrees += 5;
     reading[0] = (uint8_t)self->degrees;
     say(self);
-    printf("timer %" PRIu32 " ticks, %u degrees\n", tick_in_hand(), self->degrees);
+    printf("timer %" PRIu64 " ticks, %u degrees\n", tick_in_hand(), self->degrees);
     expect(fg_traced_notify(BOX, watchdog.id, TAG_READING, reading, sizeof reading), "notify");
 }
 
