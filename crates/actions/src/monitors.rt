@@ -1,6 +1,7 @@
 // Monitors. The slots of watcher and watched are written one up, as in the columns.
-ghost use Prim.Native.Nat.{_<_, _^_};
+ghost use Prim.Native.Nat.{_≤_};
 ghost use Rattle.tables.specs.Columns.{MONITOR-AGE};
+ghost use Rattle.tables.specs.Limits.{OLDEST};
 ghost use Rattle.tables.specs.State.{at, Room, RoomWith, Makes};
 ghost use Rattle.rules.specs.Calls.{watch, unwatch};
 use tables::Caps;
@@ -12,7 +13,7 @@ use tables::words::put;
 
 // A use of monitor slot i begins: a watches b.
 pub fn watch(t: &mut [u64], p: &[u8], k: Caps, i: u64, a: u64, b: u64)
-    requires { ⌜ RoomWith k (λ s. at s MONITOR-AGE i < 2 ^ 32) (now t) (now p) ⌝ }
+    requires { ⌜ RoomWith k (λ s. at s MONITOR-AGE i ≤ OLDEST) (now t) (now p) ⌝ }
     ensures { λ _. ⌜ Makes k (λ s. watch s i a b) (now (t .entry)) (now (p .entry)) (now (t .exit)) (now (p .entry)) ⌝ }
 {
     let age = get(t, p, k, MONITOR_AGE, i);

@@ -1,8 +1,8 @@
 // Timers.
 ghost use mathlib.Core.Path.{_≡_};
-ghost use Prim.Native.Nat.{_≤_, _<_, _^_};
+ghost use Prim.Native.Nat.{_≤_, _<_};
 ghost use Rattle.tables.specs.Columns.{CLOCK, DUE, INTERVAL, TIMER-AGE};
-ghost use Rattle.tables.specs.Limits.{CLOCK-END, LONGEST, SAFE};
+ghost use Rattle.tables.specs.Limits.{CLOCK-END, LONGEST, OLDEST, SAFE};
 ghost use Rattle.tables.specs.State.{at, head, Room, RoomWith, Makes};
 ghost use Rattle.rules.specs.Calls.{arm, disarm, nextBeat, rearm};
 use tables::Caps;
@@ -16,7 +16,7 @@ use tables::words::put;
 
 // A use of timer slot i begins: it is slot a's, and due at a time. An interval of 0 is a one-shot's.
 pub fn arm(t: &mut [u64], p: &[u8], k: Caps, i: u64, a: u64, time: u64, interval: u64)
-    requires { ⌜ RoomWith k (λ s. (at s TIMER-AGE i < 2 ^ 32) × (a < SAFE)) (now t) (now p) ⌝ }
+    requires { ⌜ RoomWith k (λ s. (at s TIMER-AGE i ≤ OLDEST) × (a < SAFE)) (now t) (now p) ⌝ }
     ensures { λ _. ⌜ Makes k (λ s. arm s i a time interval) (now (t .entry)) (now (p .entry)) (now (t .exit)) (now (p .entry)) ⌝ }
 {
     let age = get(t, p, k, TIMER_AGE, i);

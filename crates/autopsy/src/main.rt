@@ -1,8 +1,10 @@
 // Replays a trace from standard input and tells, in plain text, who ended with what still in its name, which calls were aimed at
 // a track that had ended, which pools were full, and what is left at the end. The last line is the verdict, as the program replay has it.
 use judge::step::fg_replay;
+use tables::limits::WORDS_MOST;
 use telling::aimed::is_aimed;
 use telling::aimed::tell_aimed;
+use telling::ends::PLACES;
 use telling::ends::forget;
 use telling::ends::remember;
 use telling::exits::tell_exit;
@@ -30,7 +32,7 @@ use telling::words::number;
 use telling::words::say;
 
 // What is to be told of record n, an exit or a start that was done: the buffers are as they were before.
-fn tell_before(t: &[u64], p: &[u8], ends: &mut [u64; 16384], r: &[u8], n: u64) {
+fn tell_before(t: &[u64], p: &[u8], ends: &mut [u64; PLACES], r: &[u8], n: u64) {
     let kind = kind_of(r);
     if kind == EXIT {
         remember(ends, running(t), n);
@@ -57,11 +59,11 @@ fn tell_refused(t: &mut [u64], p: &mut [u8], ends: &[u64], r: &[u8], n: u64) {
 
 // Record n made and told; where it is not right, the buffers are as they were before it. That is also what `words` and `bytes` hold.
 fn turn(
-    t: &mut [u64; 6144],
+    t: &mut [u64; WORDS_MOST],
     p: &mut [u8; 65536],
-    words: &mut [u64; 6144],
+    words: &mut [u64; WORDS_MOST],
     bytes: &mut [u8; 65536],
-    ends: &mut [u64; 16384],
+    ends: &mut [u64; PLACES],
     r: &[u8],
     n: u64,
 ) -> bool {
@@ -116,11 +118,11 @@ fn finish(t: &mut [u64], p: &mut [u8], verdict: u64, n: u64) {
 
 // One record after the other.
 fn run(
-    t: &mut [u64; 6144],
+    t: &mut [u64; WORDS_MOST],
     p: &mut [u8; 65536],
-    words: &mut [u64; 6144],
+    words: &mut [u64; WORDS_MOST],
     bytes: &mut [u8; 65536],
-    ends: &mut [u64; 16384],
+    ends: &mut [u64; PLACES],
     buf: &mut [u8; 262144],
 ) {
     let mut w = closed();
@@ -142,11 +144,11 @@ fn run(
 }
 
 fn main() {
-    let mut t = [0u64; 6144];
+    let mut t = [0u64; WORDS_MOST];
     let mut p = [0u8; 65536];
-    let mut words = [0u64; 6144];
+    let mut words = [0u64; WORDS_MOST];
     let mut bytes = [0u8; 65536];
-    let mut ends = [0u64; 16384];
+    let mut ends = [0u64; PLACES];
     let mut buf = [0u8; 262144];
     run(&mut t, &mut p, &mut words, &mut bytes, &mut ends, &mut buf);
 }

@@ -18,6 +18,7 @@ use tables::limits::MOST_LINKS;
 use tables::limits::MOST_MAILS;
 use tables::limits::MOST_MONITORS;
 use tables::limits::MOST_TIMERS;
+use tables::limits::WORDS_MOST;
 
 const CRASH: u64 = 65_533;
 
@@ -73,7 +74,7 @@ fn notice(t: &[u64], p: &[u8]) {
     let r = fg_read_exit(show(t, p));
     word(r.reason);
     io::write_all(STDOUT_FILENO, b" ");
-    number_line(r.actor as u64);
+    number_line(r.actor);
 }
 
 // Starts the largest runtime.
@@ -95,7 +96,7 @@ fn run(t: &mut [u64], p: &mut [u8]) {
     new_track(t, p);
     new_track(t, p);
     turn(t, p);
-    fg_link(t, p, 65);
+    fg_link(t, p, 257);
 }
 
 fn end(t: &mut [u64], p: &mut [u8]) {
@@ -107,7 +108,7 @@ fn end(t: &mut [u64], p: &mut [u8]) {
 
 fn main() {
     let mut area = [0; 65536];
-    let mut table = [0u64; 6144];
+    let mut table = [0u64; WORDS_MOST];
     run(&mut table, &mut area);
     end(&mut table, &mut area);
 }

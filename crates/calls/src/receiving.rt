@@ -32,18 +32,17 @@ use tables::columns::WANT_CLASS;
 use tables::columns::WANT_SENDER;
 use tables::columns::WANT_TAG;
 use tables::limits::ANY_CLASS;
-use tables::limits::ANY_SENDER;
 use tables::limits::ANY_TAG;
 use tables::limits::LONGEST_WAIT;
 use tables::words::get;
 use tables::words::put;
 
 // ---- what is asked
-// Can a filter have these numbers?
-fn legal(sender: u64, class: u64, tag: u64) -> bool
-    ensures { λ r. ⌜ r ≡ legal sender class tag ⌝ }
+// Can a filter have this class and this tag? It can have any sender.
+fn legal(class: u64, tag: u64) -> bool
+    ensures { λ r. ⌜ r ≡ legal class tag ⌝ }
 {
-    (sender <= ANY_SENDER) & (((class <= 4) | (class == ANY_CLASS)) & (tag <= ANY_TAG))
+    ((class <= 4) | (class == ANY_CLASS)) & (tag <= ANY_TAG)
 }
 
 // Is it no wait? -1 is one without end, 0 is none; no other is longer than a day.
@@ -179,7 +178,7 @@ pub fn receive_in(
     if r == 0 {
         return no_message(4);
     }
-    if !legal(sender, class, tag) | bad_wait(wait) {
+    if !legal(class, tag) | bad_wait(wait) {
         return no_message(1);
     }
     let_go(t, p, k, r - 1);

@@ -3,6 +3,8 @@ use crate::breaks::becomes;
 use crate::breaks::byte;
 use crate::breaks::two;
 use crate::breaks::word;
+use records::exit::EXIT_BYTES;
+use records::tick::TICK_BYTES;
 use tables::columns::AGE;
 use tables::columns::ARRIVAL;
 use tables::columns::ARRIVED;
@@ -45,7 +47,6 @@ use tables::columns::WANT_SENDER;
 use tables::columns::WANT_TAG;
 use tables::columns::WATCHED;
 use tables::columns::WATCHER;
-use tables::limits::ANY_SENDER;
 use tables::limits::ANY_TAG;
 use tables::limits::CLOCK_END;
 use tables::limits::DEADLINE_END;
@@ -124,7 +125,6 @@ pub fn waits(m: u64) -> u64 {
     n = word(n, b"unused deadline", DEADLINE, 2, 4000);
     n = word(n, b"deadline at the clock", DEADLINE, 0, 3000);
     n = word(n, b"deadline too late", DEADLINE, 0, DEADLINE_END + 1);
-    n = word(n, b"filter: sender", WANT_SENDER, 0, ANY_SENDER + 1);
     n = word(n, b"filter: class 5", WANT_CLASS, 0, 5);
     n = word(n, b"filter: class 14", WANT_CLASS, 0, 14);
     n = word(n, b"filter: class 16", WANT_CLASS, 0, 16);
@@ -208,7 +208,7 @@ pub fn datas(m: u64) -> u64 {
         3,
         0x8000_0000_0000_0000,
     );
-    n = word(n, b"free data with a sender", SENDER, 7, 65);
+    n = word(n, b"free data with a sender", SENDER, 7, 257);
     n = word(n, b"free data with a length", LENGTH, 7, 1);
     n = byte(n, b"free data: first byte", 7, 0, 1);
     n = byte(n, b"free data: last byte", 7, 255, 1);
@@ -226,11 +226,19 @@ pub fn messages(m: u64) -> u64 {
     n = byte(n, b"header: tag in class 4", 0, 0, 1);
     n = byte(n, b"header: tag in class 3", 4, 2, 1);
     n = word(n, b"length above 252", LENGTH, 3, PAYLOAD_MOST as u64 + 1);
-    n = word(n, b"length of a tick", LENGTH, 4, 9);
-    n = word(n, b"length of an exit notice", LENGTH, 0, 15);
-    n = word(n, b"sender of a later age", SENDER, 3, 129);
+    n = word(n, b"length of a tick", LENGTH, 4, TICK_BYTES as u64 + 1);
+    n = word(
+        n,
+        b"length of an exit notice",
+        LENGTH,
+        0,
+        EXIT_BYTES as u64 + 1,
+    );
+    n = word(n, b"length of an old tick", LENGTH, 4, 8);
+    n = word(n, b"length of an old exit notice", LENGTH, 0, 14);
+    n = word(n, b"sender of a later age", SENDER, 3, 513);
     n = word(n, b"sender of age 0", SENDER, 3, 1);
-    n = word(n, b"sender of no slot", SENDER, 3, 69);
+    n = word(n, b"sender of no slot", SENDER, 3, 261);
     n = word(n, b"sender 0 in class 0", SENDER, 3, 0);
     n = word(n, b"sender 0 in class 4", SENDER, 0, 0);
     n = byte(n, b"byte past the payload", 3, 6, 1);
@@ -362,7 +370,7 @@ pub fn public(m: u64) -> u64 {
     let mut n = m;
     n = byte(n, b"value: tag", 5, 0, 1);
     n = byte(n, b"value: class 4", 5, 3, 0x48);
-    n = word(n, b"value with a sender", SENDER, 5, 65);
+    n = word(n, b"value with a sender", SENDER, 5, 257);
     n = word(
         n,
         b"value: length above 252",

@@ -7,6 +7,7 @@ use places::least;
 use places::word_at;
 use runtime::start::fg_start;
 use tables::columns::ACTORS;
+use tables::columns::AGE;
 use tables::columns::CLOCK;
 use tables::columns::DATA_FREE;
 use tables::columns::DATAS;
@@ -16,7 +17,10 @@ use tables::columns::MAIL_FREE;
 use tables::columns::MAILS;
 use tables::columns::MONITORS;
 use tables::columns::RUNNING;
+use tables::columns::TIMER_AGE;
 use tables::columns::TIMERS;
+use tables::columns::WANT_SENDER;
+use tables::limits::ANY_SENDER;
 use tables::limits::CLOCK_END;
 use tables::limits::MOST_ACTORS;
 use tables::limits::MOST_DATAS;
@@ -24,7 +28,9 @@ use tables::limits::MOST_LINKS;
 use tables::limits::MOST_MAILS;
 use tables::limits::MOST_MONITORS;
 use tables::limits::MOST_TIMERS;
+use tables::limits::OLDEST;
 use tables::limits::SHORTEST_INTERVAL;
+use tables::limits::WORDS_MOST;
 
 mod breaks;
 mod checks;
@@ -47,7 +53,7 @@ fn start_largest(t: &mut [u64], p: &mut [u8]) {
 
 // The largest runtime.
 fn largest() {
-    let mut t = [0u64; 6144];
+    let mut t = [0u64; WORDS_MOST];
     let mut p = [0u8; 65536];
     start_largest(&mut t, &mut p);
     state(&t, &p, b"largest");
@@ -55,7 +61,7 @@ fn largest() {
 
 // The largest runtime with column c of its head broken.
 fn larger(n: u64, name: &[u8], c: usize, x: u64) -> u64 {
-    let mut t = [0u64; 6144];
+    let mut t = [0u64; WORDS_MOST];
     let mut p = [0u8; 65536];
     start_largest(&mut t, &mut p);
     set(&mut t, word_at(c, 0), x);
@@ -64,7 +70,7 @@ fn larger(n: u64, name: &[u8], c: usize, x: u64) -> u64 {
 
 // Each capacity one above its range.
 fn too_large(m: u64) -> u64 {
-    let mut n = larger(m, b"65 actors", ACTORS, MOST_ACTORS as u64 + 1);
+    let mut n = larger(m, b"257 actors", ACTORS, MOST_ACTORS as u64 + 1);
     n = larger(n, b"257 mailbox entries", MAILS, MOST_MAILS as u64 + 1);
     n = larger(n, b"257 data entries", DATAS, MOST_DATAS as u64 + 1);
     n = larger(n, b"129 links", LINKS, MOST_LINKS as u64 + 1);
@@ -171,13 +177,32 @@ fn small() {
     state(&t, &p, b"small");
 }
 
-// The same with another interval of its timer: sound too.
-fn other_interval(name: &[u8], x: u64) {
+// The same with another word i of column c: sound too.
+fn with(name: &[u8], c: usize, i: usize, x: u64) {
     let mut t = [0u64; 1536];
     let mut p = [0u8; 2048];
     scene::bring(&mut t, &mut p);
-    set(&mut t, word_at(INTERVAL, 0), x);
+    set(&mut t, word_at(c, i), x);
     state(&t, &p, name);
+}
+
+// What is just in range: intervals of its timer, the age of slot 3 and of the free timer, whom slot 0 waits for.
+fn in_range() {
+    with(
+        b"small, with the shortest interval,",
+        INTERVAL,
+        0,
+        SHORTEST_INTERVAL,
+    );
+    with(b"small, with a timer that ticks once,", INTERVAL, 0, 0);
+    with(b"small, with an actor of the last age,", AGE, 3, OLDEST);
+    with(b"small, with a worn timer,", TIMER_AGE, 1, OLDEST);
+    with(
+        b"small, with a wait for whatever sender,",
+        WANT_SENDER,
+        0,
+        ANY_SENDER - 1,
+    );
 }
 
 // A break for each rule.
@@ -209,8 +234,7 @@ fn main() {
     enough();
     n = short_area(short_table(n));
     small();
-    other_interval(b"small, with the shortest interval,", SHORTEST_INTERVAL);
-    other_interval(b"small, with a timer that ticks once,", 0);
+    in_range();
     n = broken(n);
     io::print_decimal(1, n);
     io::write_all(1, b" refused\n");

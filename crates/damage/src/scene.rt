@@ -40,14 +40,14 @@ fn start_small(t: &mut [u64], p: &mut [u8]) {
     );
 }
 
-// A fresh runtime at 1,000 µs, and actor 64, which runs first.
+// A fresh runtime at 1,000 µs, and actor 256, which runs first.
 fn begun(t: &mut [u64], p: &mut [u8]) {
     start_small(t, p);
     fg_advance(t, p, 1000);
     fg_spawn(t, p, 0);
 }
 
-// The actors 65 to 68.
+// The actors 257 to 260.
 fn joined(t: &mut [u64], p: &mut [u8]) {
     fg_spawn(t, p, 1);
     fg_spawn(t, p, 2);
@@ -55,15 +55,15 @@ fn joined(t: &mut [u64], p: &mut [u8]) {
     fg_spawn(t, p, 1);
 }
 
-// 64 waits until 6,000 µs for tag 9; 65 runs and watches 68.
+// 256 waits until 6,000 µs for tag 9; 257 runs and watches 260.
 fn waited(t: &mut [u64], p: &mut [u8]) {
     fg_next(t, p);
     fg_receive(t, p, ANY_SENDER, 0, 9, 5);
     fg_next(t, p);
-    fg_monitor(t, p, 68);
+    fg_monitor(t, p, 260);
 }
 
-// 68 runs and ends; 65 runs again.
+// 260 runs and ends; 257 runs again.
 fn ended(t: &mut [u64], p: &mut [u8]) {
     fg_yield(t, p);
     fg_next(t, p);
@@ -71,20 +71,20 @@ fn ended(t: &mut [u64], p: &mut [u8]) {
     fg_next(t, p);
 }
 
-// 65: two links, a monitor, a timer.
+// 257: two links, a monitor, a timer.
 fn tied(t: &mut [u64], p: &mut [u8]) {
-    fg_link(t, p, 64);
-    fg_link(t, p, 66);
-    fg_monitor(t, p, 64);
+    fg_link(t, p, 256);
+    fg_link(t, p, 258);
+    fg_monitor(t, p, 256);
     fg_every(t, p, 2000);
 }
 
-// 65 has a message of its own in hand; 64 and 66 have one each in their mailboxes.
+// 257 has a message of its own in hand; 256 and 258 have one each in their mailboxes.
 fn told(t: &mut [u64], p: &mut [u8]) {
-    fg_notify(t, p, 65, 7, b"hello");
+    fg_notify(t, p, 257, 7, b"hello");
     fg_receive(t, p, ANY_SENDER, 0, 7, 0);
-    fg_notify(t, p, 64, 7, b"abc");
-    fg_notify(t, p, 66, LAST_TAG, b"xy");
+    fg_notify(t, p, 256, 7, b"abc");
+    fg_notify(t, p, 258, LAST_TAG, b"xy");
 }
 
 // All of that, one after the other.
@@ -95,14 +95,14 @@ fn grown(t: &mut [u64], p: &mut [u8]) {
     ended(t, p);
 }
 
-// Two buses, of three entries and two seats, and of one each; 65 sits on the first one.
+// Two buses, of three entries and two seats, and of one each; 257 sits on the first one.
 fn seated(t: &mut [u64], p: &mut [u8]) {
     fg_bus(t, p, 3, 2, 0, 0);
     fg_bus(t, p, 1, 1, 0, 0);
     fg_subscribe(t, p, 0);
 }
 
-// Two values on the first bus, of which 65 has read one.
+// Two values on the first bus, of which 257 has read one.
 fn aired(t: &mut [u64], p: &mut [u8]) {
     let mut slice = [0u8; 2];
     fg_publish(t, p, 0, b"20");

@@ -20,6 +20,7 @@ use actions::running::wake;
 use actions::timers::rearm;
 use actions::times::earliest;
 use records::header::pack;
+use records::tick::TICK_BYTES;
 use records::tick::put_tick;
 use rules::Advanced;
 use rules::states::TIMEOUT;
@@ -40,11 +41,11 @@ const TICK: u32 = 3;
 
 // ---- timers
 // The tick of a timer goes to slot a.
-fn send_tick(t: &mut [u64], p: &mut [u8], k: Caps, a: u64, id: u32)
+fn send_tick(t: &mut [u64], p: &mut [u8], k: Caps, a: u64, id: u64)
     requires { ⌜ RoomWith k (λ s. (hasRoom k s ≡ true) × Short s × (a < SAFE)) (now t) (now p) ⌝ }
     ensures { λ _. ⌜ Makes k (λ s. post k s a 0 (packed 3 1 0) (tickBytes id)) (now (t .entry)) (now (p .entry)) (now (t .exit)) (now (p .exit)) ⌝ }
 {
-    let mut bytes = [0u8; 8];
+    let mut bytes = [0u8; TICK_BYTES];
     put_tick(&mut bytes, 0, id);
     post(t, p, k, a, 0, pack(TICK, 1, 0), &bytes);
 }
@@ -57,7 +58,7 @@ fn fire(t: &mut [u64], p: &mut [u8], k: Caps, i: u64)
     let owner = get(t, p, k, TIMER_OWNER, i);
     let age = get(t, p, k, TIMER_AGE, i);
     rearm(t, p, k, i);
-    send_tick(t, p, k, owner - 1, (age * TIMER_FACTOR + i) as u32);
+    send_tick(t, p, k, owner - 1, age * TIMER_FACTOR + i);
 }
 
 // The due timers, which are the first m of a row, fire from the last on, while both message pools have room. How many did?

@@ -3,7 +3,7 @@ ghost use mathlib.Core.Path.{_≡_};
 ghost use mathlib.Core.Bool.{true};
 ghost use Prim.Native.Nat.{_<_};
 ghost use Rattle.tables.specs.Columns.{STATE};
-ghost use Rattle.tables.specs.Limits.{MOST-MONITORS};
+ghost use Rattle.tables.specs.Limits.{MOST-ACTORS};
 ghost use Rattle.tables.specs.State.{Of, Room, RoomWith};
 ghost use Rattle.rules.specs.Sound.{Ready};
 ghost use Rattle.rules.specs.Terms.{alive};
@@ -32,9 +32,9 @@ use tables::words::get;
 const STEPS: u64 = 6;
 
 // Step i of the end of slot a, whose id is me: an arm for each step.
-fn step(t: &mut [u64], p: &mut [u8], k: Caps, i: u64, a: u64, me: u32, reason: u16) -> Count
+fn step(t: &mut [u64], p: &mut [u8], k: Caps, i: u64, a: u64, me: u64, reason: u16) -> Count
     requires { ⌜ Room k (now t) (now p) × (i < STEPS) × Of k (Midway k a me i) (now t) (now p) ⌝ }
-    ensures { λ r. ⌜ Counted k (stepAt i k a me reason) (now (t .entry)) (now (p .entry)) r (now (t .exit)) (now (p .exit)) × Few r MOST-MONITORS ⌝ }
+    ensures { λ r. ⌜ Counted k (stepAt i k a me reason) (now (t .entry)) (now (p .entry)) r (now (t .exit)) (now (p .exit)) × Few r MOST-ACTORS ⌝ }
 {
     match i {
         0 => clear(t, p, k, a),
@@ -48,7 +48,7 @@ fn step(t: &mut [u64], p: &mut [u8], k: Caps, i: u64, a: u64, me: u32, reason: u
 }
 
 // All the steps, one after the other; their notices are added up.
-fn through(t: &mut [u64], p: &mut [u8], k: Caps, a: u64, me: u32, reason: u16) -> Count
+fn through(t: &mut [u64], p: &mut [u8], k: Caps, a: u64, me: u64, reason: u16) -> Count
     requires { ⌜ RoomWith k (Ending k a me) (now t) (now p) ⌝ }
     ensures { λ r. ⌜ Counted k (through steps k a me reason) (now (t .entry)) (now (p .entry)) r (now (t .exit)) (now (p .exit)) ⌝ }
 {
@@ -70,7 +70,7 @@ pub fn depart(t: &mut [u64], p: &mut [u8], k: Caps, a: u64, reason: u16) -> Coun
     ensures { λ r. ⌜ Counted k (depart k a reason) (now (t .entry)) (now (p .entry)) r (now (t .exit)) (now (p .exit)) ⌝ }
 {
     let me = get(t, p, k, AGE, a) * ACTOR_FACTOR + a;
-    let n = through(t, p, k, a, me as u32, reason);
+    let n = through(t, p, k, a, me, reason);
     vacate(t, p, k, a);
     n
 }

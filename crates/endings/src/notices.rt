@@ -2,7 +2,7 @@
 ghost use mathlib.Core.Path.{_≡_};
 ghost use mathlib.Core.Bool.{true};
 ghost use Prim.Native.Nat.{suc, _<_};
-ghost use lib.ListN.{getD};
+ghost use lib.ListN.{getD, length};
 ghost use Rattle.records.specs.Header.{packed};
 ghost use Rattle.records.specs.Records.{exitBytes};
 ghost use Rattle.tables.specs.Columns.{WATCHED};
@@ -19,6 +19,7 @@ use actions::links::tie;
 use actions::messages::post;
 use actions::monitors::unwatch;
 use actions::room::has_room;
+use records::exit::EXIT_BYTES;
 use records::exit::put_exit;
 use records::header::pack;
 use tables::Caps;
@@ -26,7 +27,6 @@ use tables::columns::MONITOR_AGE;
 use tables::columns::WATCHED;
 use tables::columns::WATCHER;
 use tables::limits::MONITOR_FACTOR;
-use tables::limits::MOST_ACTORS;
 use tables::words::get;
 
 // The class of an exit notice.
@@ -39,13 +39,13 @@ pub struct Count {
 }
 
 // The notice of an exit goes to slot a.
-fn send_exit(t: &mut [u64], p: &mut [u8], k: Caps, a: u64, me: u32, reason: u16, monitor: u32)
+fn send_exit(t: &mut [u64], p: &mut [u8], k: Caps, a: u64, me: u64, reason: u16, monitor: u64)
     requires { ⌜ RoomWith k (λ s. (hasRoom k s ≡ true) × Short s × (a < SAFE)) (now t) (now p) ⌝ }
     ensures { λ _. ⌜ Makes k (λ s. post k s a me (packed 4 1 0) (exitBytes me reason monitor)) (now (t .entry)) (now (p .entry)) (now (t .exit)) (now (p .exit)) ⌝ }
 {
-    let mut bytes = [0u8; 14];
+    let mut bytes = [0u8; EXIT_BYTES];
     put_exit(&mut bytes, 0, me, reason, monitor);
-    post(t, p, k, a, me as u64, pack(EXIT, 1, 0), &bytes);
+    post(t, p, k, a, me, pack(EXIT, 1, 0), &bytes);
 }
 
 // The same, if there is room; else it is lost.
@@ -55,9 +55,9 @@ fn tell(
     k: Caps,
     n: Count,
     a: u64,
-    me: u32,
+    me: u64,
     reason: u16,
-    monitor: u32,
+    monitor: u64,
 ) -> Count
     requires { ⌜ RoomWith k (λ s. Short s × (a < SAFE) × Few n SAFE) (now t) (now p) ⌝ }
     ensures { λ r. ⌜ Counted k (λ s. tell k (toldOf n s) a me reason monitor) (now (t .entry)) (now (p .entry)) r (now (t .exit)) (now (p .exit)) ⌝ }
@@ -82,15 +82,15 @@ fn cut_link(
     p: &mut [u8],
     k: Caps,
     n: Count,
-    me: u32,
+    me: u64,
     reason: u16,
     b: u64,
-    row: &[u64; MOST_ACTORS],
+    row: &[u8],
 ) -> Count
-    requires { ⌜ RoomWith k (λ s. Short s × (b < MOST-ACTORS) × Few n SAFE) (now t) (now p) ⌝ }
+    requires { ⌜ RoomWith k (λ s. Short s × (b < MOST-ACTORS) × Few n SAFE × (length (now row) ≡ MOST-ACTORS)) (now t) (now p) ⌝ }
     ensures { λ r. ⌜ Counted k (λ s. cutEntry k me reason b (getD (now (row .entry)) b 0) (toldOf n s)) (now (t .entry)) (now (p .entry)) r (now (t .exit)) (now (p .exit)) ⌝ }
 {
-    let e = row[b as usize];
+    let e = row[b as usize] as u64;
     if e == 0 {
         return n;
     }
@@ -99,7 +99,7 @@ fn cut_link(
 }
 
 // All links of slot a end, by ascending partner slot.
-pub fn cut_links(t: &mut [u64], p: &mut [u8], k: Caps, a: u64, me: u32, reason: u16) -> Count
+pub fn cut_links(t: &mut [u64], p: &mut [u8], k: Caps, a: u64, me: u64, reason: u16) -> Count
     requires { ⌜ RoomWith k (Going k a me) (now t) (now p) ⌝ }
     ensures { λ r. ⌜ Counted k (λ s. cutLinks k a me reason (k .actors) (told 0 0 s)) (now (t .entry)) (now (p .entry)) r (now (t .exit)) (now (p .exit)) × Few r MOST-ACTORS ⌝ }
 {
@@ -122,7 +122,7 @@ fn cut_eye(
     k: Caps,
     n: Count,
     a: u64,
-    me: u32,
+    me: u64,
     reason: u16,
     i: u64,
 ) -> Count
@@ -140,7 +140,7 @@ fn cut_eye(
         watcher - 1,
         me,
         reason,
-        (age * MONITOR_FACTOR + i) as u32,
+        age * MONITOR_FACTOR + i,
     )
 }
 
@@ -151,7 +151,7 @@ fn cut_monitor(
     k: Caps,
     n: Count,
     a: u64,
-    me: u32,
+    me: u64,
     reason: u16,
     i: u64,
 ) -> Count
@@ -165,7 +165,7 @@ fn cut_monitor(
 }
 
 // All monitors on slot a end, by ascending monitor slot.
-pub fn cut_monitors(t: &mut [u64], p: &mut [u8], k: Caps, a: u64, me: u32, reason: u16) -> Count
+pub fn cut_monitors(t: &mut [u64], p: &mut [u8], k: Caps, a: u64, me: u64, reason: u16) -> Count
     requires { ⌜ RoomWith k (Going k a me) (now t) (now p) ⌝ }
     ensures { λ r. ⌜ Counted k (λ s. cutMonitors k a me reason (k .monitors) (told 0 0 s)) (now (t .entry)) (now (p .entry)) r (now (t .exit)) (now (p .exit)) × Few r MOST-MONITORS ⌝ }
 {

@@ -6,7 +6,7 @@ ghost use Rattle.trace.specs.Codec.{formed, frontOf, textLength};
 ghost use Rattle.trace.specs.Kinds.{rowOf};
 ghost use Rattle.judge.specs.Forms.{shapeOf};
 use records::bytes::load16;
-use trace::numbers::load64;
+use records::bytes::load64;
 
 // The first kind, and how many there are.
 pub const FIRST: u16 = 16;

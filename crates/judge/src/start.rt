@@ -5,12 +5,12 @@ ghost use lib.ListN.{length};
 ghost use Rattle.judge.specs.Replayed.{Began, Begun, asksFor, sizesOf};
 ghost use Rattle.records.specs.Bytes.{field};
 ghost use Rattle.trace.specs.Verdict.{canBegin};
+use records::bytes::load64;
 use runtime::start::fg_start;
 use sound::ranged;
 use tables::Caps;
 use tables::layout::bytes_needed;
 use tables::layout::words_needed;
-use trace::numbers::load64;
 use trace::writer::matches;
 
 // What the record of a start asks for: the lengths of its buffers, and the capacities.

@@ -31,8 +31,8 @@ use crate::each::judge_yield;
 use crate::forms::length_right;
 use crate::start::judge_start;
 use records::bytes::load16;
+use records::bytes::load64;
 use tables::limits::PAYLOAD_MOST;
-use trace::numbers::load64;
 
 // A message, its payload recorded whole or by its length alone.
 fn message(t: &mut [u64], p: &mut [u8], r: &[u8]) -> bool

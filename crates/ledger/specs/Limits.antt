@@ -1,9 +1,9 @@
 -- The limits of document 01 by name.
 use Prim.Native.Nat.{ℕ, _-_, _^_}
 
--- ---- ids: "An actor or timer id is age × 64 + slot, a monitor id age × 128 + slot"; every slot is below the factor
+-- ---- ids: "an actor id is age × 256 + slot"; "A .. timer id is age × 64 + slot, a monitor id age × 128 + slot"; every slot is below the factor
 abbrev pub ACTOR-FACTOR : ℕ
-ACTOR-FACTOR = 64
+ACTOR-FACTOR = 256
 
 abbrev pub TIMER-FACTOR : ℕ
 TIMER-FACTOR = 64
@@ -11,9 +11,9 @@ TIMER-FACTOR = 64
 abbrev pub MONITOR-FACTOR : ℕ
 MONITOR-FACTOR = 128
 
--- "A slot's age is .. at most 33,000,000"
+-- "Ages go to 2^40"
 abbrev pub OLDEST : ℕ
-OLDEST = 33000000
+OLDEST = 2 ^ 40
 
 -- ---- actors
 -- "Priorities are 0 (first) to 3"
@@ -76,9 +76,9 @@ EXIT-CLASS = 4
 abbrev pub LAST-CLASS : ℕ
 LAST-CLASS = 4
 
--- "with 4,294,967,295, 15 and 134,217,727 for any"
+-- "Any-sender becomes 2^64 - 1"; ".. 15 and 134,217,727 for any"
 abbrev pub ANY-SENDER : ℕ
-ANY-SENDER = 4294967295
+ANY-SENDER = 2 ^ 64 - 1
 
 abbrev pub ANY-CLASS : ℕ
 ANY-CLASS = 15

@@ -7,6 +7,7 @@ use judge::feed::feed;
 use judge::feed::keep;
 use libc::STDIN_FILENO;
 use libc::STDOUT_FILENO;
+use tables::limits::WORDS_MOST;
 
 // The longest record has 65,537 bytes, so a piece of this size always holds a whole one.
 const PIECE: usize = 131_072;
@@ -68,7 +69,7 @@ fn run(t: &mut [u64], p: &mut [u8], buf: &mut [u8])
 }
 
 fn main() {
-    let mut t = [0u64; 6144];
+    let mut t = [0u64; WORDS_MOST];
     let mut p = [0u8; 65536];
     let mut buf = [0u8; PIECE];
     run(&mut t, &mut p, &mut buf);

@@ -50,7 +50,7 @@ nextSlot P k s = lowest (canTake P s) (P .many k)
 abbrev pub slotsLeft : Aged → Caps → State → ℕ
 slotsLeft P k s = count (canTake P s) (P .many k)
 
--- ---- ids: "An actor or timer id is age × 64 + slot, a monitor id age × 128 + slot"
+-- ---- ids: "an actor id is age × 256 + slot"; "A .. timer id is age × 64 + slot, a monitor id age × 128 + slot"
 -- of the present use of slot i
 abbrev pub useId : Aged → State → ℕ → ℕ
 useId P s i = idOf (P .factor) (at s (P .age) i) i

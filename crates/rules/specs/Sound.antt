@@ -9,10 +9,11 @@ use Rattle.pools.specs.Pool.{occurs}
 use Rattle.pools.specs.Bits.{free}
 use Rattle.pools.specs.Slot.{ageOf, slotOf}
 use Rattle.records.specs.Header.{classOf, markOf, tagOf}
+use Rattle.records.specs.Records.{EXIT-BYTES, TICK-BYTES}
 use Rattle.tables.specs.declared.Caps.{Caps}
 use Rattle.tables.specs.Columns.{ACTORS, AGE, ARRIVAL, ARRIVED, BUS-AGE, BUS-READS, BUS-SEATS, BUS-SIZE, BUSES, CLOCK, DATA-FREE, DATAS, DEADLINE, DUE, HAND, INTERVAL, ISSUE, ISSUED, LENGTH, LINK-ONE, LINK-TWO, LINKS, MAIL-DATA, MAIL-FREE, MAIL-OWNER, MAILS, MONITORS, PAYLOAD, PRIORITY, PUBLISHED, QUEUE, QUEUED, READERS, REASON, REST, SENDER, SPARE, STATE, TIMER-OWNER, TIMERS, VALUE-BUS, WANT-CLASS, WANT-SENDER, WANT-TAG, WATCHED, WATCHER}
 use Rattle.tables.specs.Sizes.{COLUMN-BITS, SPARES}
-use Rattle.tables.specs.Limits.{ACTOR-FACTOR, ANY-CLASS, ANY-SENDER, ANY-TAG, CLOCK-END, DEADLINE-END, DUE-END, ENTRY-BYTES, HEADER-BYTES, LAST-LEVEL, LONGEST, LONGEST-AGE, MOST-ACTORS, MOST-BUSES, MOST-DATAS, MOST-LINKS, MOST-MAILS, MOST-MONITORS, MOST-READS, MOST-SEATS, MOST-TIMERS, MOST-VALUES, OLDEST, PAYLOAD-MOST, SHORTEST-INTERVAL}
+use Rattle.tables.specs.Limits.{ACTOR-FACTOR, ANY-CLASS, ANY-TAG, CLOCK-END, DEADLINE-END, DUE-END, ENTRY-BYTES, HEADER-BYTES, LAST-LEVEL, LONGEST, LONGEST-AGE, MOST-ACTORS, MOST-BUSES, MOST-DATAS, MOST-LINKS, MOST-MAILS, MOST-MONITORS, MOST-READS, MOST-SEATS, MOST-TIMERS, MOST-VALUES, OLDEST, PAYLOAD-MOST, SHORTEST-INTERVAL}
 use Rattle.tables.specs.State.{State, at, head, view, capsOf, size, neededP, Room}
 use Rattle.rules.specs.Rule.{Rule, is, le, lt, eq, differ, both, imp, each, Holds}
 use Rattle.rules.specs.Aged.{Aged, monitorPool, timerPool}
@@ -62,10 +63,10 @@ unusedRule s a =
     (imp (differ (at s STATE a) WAITS)
     (both (both (eq (at s WANT-SENDER a) 0) (eq (at s WANT-CLASS a) 0)) (both (eq (at s WANT-TAG a) 0) (eq (at s DEADLINE a) 0)))))
 
--- "a waiting actor's deadline is later than the clock and at most 2^62 + 2^41" (0 is no deadline); "filters are legal"
+-- "a waiting actor's deadline is later than the clock and at most 2^62 + 2^41" (0 is no deadline); "filters are legal", whatever the sender
 abbrev pub waitRule : State → ℕ → Rule
 waitRule s a =
-    both (both (le (at s WANT-SENDER a) ANY-SENDER) (le (at s WANT-TAG a) ANY-TAG))
+    both (le (at s WANT-TAG a) ANY-TAG)
     (both (both (le (at s WANT-CLASS a) ANY-CLASS) (imp (lt 4 (at s WANT-CLASS a)) (eq (at s WANT-CLASS a) ANY-CLASS)))
     (imp (differ (at s DEADLINE a) 0) (both (lt (head s CLOCK) (at s DEADLINE a)) (le (at s DEADLINE a) DEADLINE-END))))
 
@@ -136,10 +137,10 @@ headerRule h =
     both (imp (eq (classOf h) 0) (both (eq (markOf h) 0) (lt (tagOf h) ANY-TAG)))
     (imp (differ (classOf h) 0) (both (both (le 3 (classOf h)) (le (classOf h) 4)) (both (eq (markOf h) 1) (eq (tagOf h) 0))))
 
--- "lengths are 0 to 252, in classes 3 and 4 the record's"
+-- "lengths are 0 to 252, in classes 3 and 4 the record's", of the new edition
 abbrev pub lengthRule : ℕ → ℕ → Rule
 lengthRule class length =
-    both (le length PAYLOAD-MOST) (both (imp (eq class 3) (eq length 8)) (imp (eq class 4) (eq length 14)))
+    both (le length PAYLOAD-MOST) (both (imp (eq class 3) (eq length TICK-BYTES)) (imp (eq class 4) (eq length EXIT-BYTES)))
 
 -- "senders (0 just in class 3) are actor ids of age 1 to their slot's age"
 abbrev pub senderRule : List ℕ → ℕ → ℕ → Rule

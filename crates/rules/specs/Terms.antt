@@ -37,7 +37,7 @@ TIMEOUT = 2
 unfoldable pub alive : List ℕ → ℕ → Bool
 alive states a = not (unused states a)
 
--- "An actor or timer id is age × 64 + slot, a monitor id age × 128 + slot"
+-- "an actor id is age × 256 + slot"; "A .. timer id is age × 64 + slot, a monitor id age × 128 + slot"
 abbrev pub actorId : State → ℕ → ℕ
 actorId = useId actorPool
 
@@ -84,9 +84,9 @@ abbrev pub awaits : State → ℕ → ℕ → Bool
 awaits s a d =
     fits (at s WANT-SENDER a) (at s WANT-CLASS a) (at s WANT-TAG a) (at s SENDER d) (classOf (header s d)) (tagOf (header s d))
 
--- "classes 5 to 14 or above 15 and larger senders or tags are malformed"
-abbrev pub legal : ℕ → ℕ → ℕ → Bool
-legal sender class tag = leb sender ANY-SENDER && ((leb class 4 || eqb class ANY-CLASS) && leb tag ANY-TAG)
+-- "classes 5 to 14 or above 15 and larger .. tags are malformed"; since request C-19 no sender is
+abbrev pub legal : ℕ → ℕ → Bool
+legal class tag = (leb class 4 || eqb class ANY-CLASS) && leb tag ANY-TAG
 
 -- ---- links
 -- link entry e joins the slots a and b, written one up as in the columns

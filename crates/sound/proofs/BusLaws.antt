@@ -1,36 +1,28 @@
--- Buses: those that are made and the others; the seats of one, marked slot by slot; and the seats of all, as the rules have them.
-use Prim.Native.Nat.{ℕ, zero, suc, _+_, _-_, _*_, _/_, _%_, _^_, _≤_, _<_}
+-- Buses: those that are made and the others; the seats of one, stamped one by one; and the seats of all, as the rules have them.
+use Prim.Native.Nat.{ℕ, suc, _+_, _-_, _*_, _/_, _%_, _≤_, _<_}
 use native.Mathlib.Decide.{decLt}
 use native.Mathlib.Omega.{arith}
 use mathlib.Core.Path.{_≡_, refl, sym, ap, _∙_}
-use mathlib.Core.Bool.{Bool, true, false}
-use mathlib.Core.List.{List, [], _∷_}
-use mir.Val.{boolByte}
-use lib.Bits.{bitAnd, bitOr, and-zero-r, or-zero-r}
+use mathlib.Core.Bool.{Bool, true, false, not, _&&_}
+use mathlib.Core.List.{List}
 use lib.Dec.{eqb, leb}
-use lib.ListN.{length, getD, replicate, take, drop, length-take, length-replicate, getD-replicate, List·getD-eq-default}
-use lib.Seq.{take-suc, getD-take, getD-drop}
-use borrow.Author.Tests.{eqb-true, le-leb}
-use Rattle.pools.specs.Bits.{WORD-BITS, free}
-use Rattle.pools.specs.Pool.{occurs}
-use Rattle.pools.proofs.BitLaws.{bit-none}
-use Rattle.pools.proofs.BoolLaws.{split, and-right, flag≤}
-use Rattle.pools.proofs.ListLaws.{occurs-snoc, occurs-place, occurs-once}
+use lib.ListN.{length, getD, set, take, drop}
+use lib.Seq.{getD-set-same, getD-set-other, getD-take, getD-drop}
+use borrow.Author.Tests.{eqb-true, eqb-false, eq-eqb, ne-eqb, le-leb}
+use Rattle.pools.proofs.BoolLaws.{split, and-right}
 use Rattle.tables.specs.Columns.{BUS-SEATS, BUSES, SEAT, STATE}
 use Rattle.tables.specs.Limits.{MOST-BUSES, MOST-SEATS}
 use Rattle.tables.specs.Sizes.{ALL-SEATS}
 use Rattle.tables.specs.State.{State, at, head}
 use Rattle.rules.specs.Buses.{inSeat}
-use Rattle.rules.specs.Rule.{Rule, test, each, both, imp, le, eq, Holds}
+use Rattle.rules.specs.Rule.{Rule, test, each, both, imp, le, eq, differ, Holds}
 use Rattle.rules.specs.Sound.{busRule, rowRule}
 use Rattle.rules.specs.Terms.{alive}
-use Rattle.rules.proofs.Kept.Rules.{reads, same-test}
-use Rattle.sound.specs.Buses.{settingsIn, busIn, sitterIn, newIn, rowIn}
-use Rattle.sound.specs.Marks.{Added, Below, bitUp}
-use Rattle.sound.specs.Standing.{Standing, livesIn}
-use Rattle.sound.specs.Ties.{Inside}
+use Rattle.rules.proofs.Kept.Rules.{reads, all-none, all-more}
+use Rattle.sound.specs.Buses.{settingsIn, busIn, sitterIn, rowIn, rowsIn, Before}
+use Rattle.sound.specs.Marks.{Below}
+use Rattle.sound.specs.Standing.{Spans, Standing, livesIn}
 use Rattle.sound.proofs.ListLaws.{same-rule}
-use Rattle.sound.proofs.MarkLaws.{mark-one, up-none, up-one}
 use Rattle.sound.proofs.StandingLaws.{lives-in}
 
 -- ---- those that are made, and the others
@@ -47,74 +39,48 @@ module _ (sizes seats reads ages : List ℕ) (n : ℕ) (few : n ≤ MOST-BUSES) 
       (λ h. (λ b l. h b (omega arith) .0 l, ((λ b l m. h b l .1 m .0 .0, λ b l m. h b l .1 m .0 .1), (λ b l m. h b l .1 m .1 .0, λ b l m. h b l .1 m .1 .1))))
       (λ (made, ((few, none), (unread, ageless))) b l. (λ m. made b m, λ m. ((few b l m, none b l m), (unread b l m, ageless b l m))))
 
--- ---- one word of marks
--- a word of a list of zeros
-zero-at : (n j : ℕ) → _≡_ {A = ℕ} (getD (replicate n 0) j 0) 0
-zero-at n j =
-    elim (decLt j n) [
-      | yes l ↦ getD-replicate {A = ℕ} n j 0 0 l
-      | no m ↦ List·getD-eq-default {A = ℕ} (replicate n 0) 0 (omega (arith, length-replicate {A = ℕ} n 0))
-    ]
+-- ---- the seats of one bus, stamped one by one
+-- of the places those have the stamp that one of the first n words names, and none has a later one
+pub record Stamped (list : List ℕ) (n stamp : ℕ) (stamps : List ℕ) : Type 0 where
+  pub before : Before (suc stamp) stamps
+  pub new : (a : ℕ) → not (eqb (getD stamps a 0) stamp) ≡ test (each n (λ m. differ (getD list m 0) a))
 
--- nothing is marked at first
-pub clear-none : (n e : ℕ) → free (replicate n 0) e ≡ false
-clear-none n e = rw (zero-at n (e / WORD-BITS), bit-none (e % WORD-BITS))
+-- none is past the next stamp either
+pub before-next : (stamp : ℕ) (stamps : List ℕ) → Before stamp stamps → Before (suc stamp) stamps
+before-next stamp stamps h i = omega (arith, h i)
 
--- the bit of a word that names an entry
-pub up-bit : (a : ℕ) → (a ≡ 0 → ⊥) → 2 ^ (a - 1) ≡ bitUp a
-up-bit zero n = absurd (n refl)
-up-bit (suc e) n = let z : suc e - 1 ≡ e = omega arith in ap (λ (j : ℕ). 2 ^ j) z
+and-no : (x : Bool) → false ≡ x && false
+and-no true = refl
+and-no false = refl
 
--- the entry that a word names, one up, is marked
-pub mark-word : (seen a b : ℕ) → b ≡ bitUp a → a ≤ WORD-BITS → Added (λ d. boolByte (eqb a (suc d))) (eqb (bitAnd seen b) 0) (seen ∷ []) (bitOr seen b ∷ [])
-mark-word seen zero b z l = rw (z, and-zero-r seen, or-zero-r seen) (up-none 0 (seen ∷ []) refl)
-mark-word seen (suc e) b z l =
-    let d : e / WORD-BITS ≡ 0 = omega arith in
-    let m : e % WORD-BITS ≡ e = omega arith in
-    let p : suc e - 1 ≡ e = omega arith in
-    up-one (λ q. omega arith) (rw p (rw d at (mark-one (seen ∷ []) e b (rw m z) (omega arith))))
+and-yes : (x : Bool) → x ≡ x && true
+and-yes true = refl
+and-yes false = refl
 
--- ---- no word of a list twice
-module _ (list : List ℕ) where
-  -- a word that differs from those before it is not among them
-  absent : (n : ℕ) → Holds (newIn list n) → 1 ≤ getD list n 0 → occurs (getD list n 0) (take n list) ≡ 0
-  absent n h l =
-      elim (decLt 0 (occurs (getD list n 0) (take n list))) [
-        | yes m ↦ let o = occurs-place (getD list n 0) (take n list) m in
-            let q : o .0 < n = omega (arith, o .1, length-take n list) in
-            absurd (h (λ z. omega arith) (o .0) q (sym (getD-take n list (o .0) 0 q) ∙ o .2))
-        | no m ↦ omega arith
-      ]
+module _ (list : List ℕ) {stamp : ℕ} {stamps : List ℕ} where
+  pub stamped-none : Before stamp stamps → Stamped list 0 stamp stamps
+  stamped-none h = record {
+    before = before-next stamp stamps h;
+    new = λ a. ap not (ne-eqb (getD stamps a 0) stamp (λ e. omega (arith, h a))) ∙ sym (all-none (λ m. test (differ (getD list m 0) a)));
+  }
 
-  -- so each is there once
-  new-once : (a n : ℕ) → 1 ≤ a → n ≤ length list → ((i : ℕ) → i < n → Holds (newIn list i)) → occurs a (take n list) ≤ 1
-  unfolding occurs
-  new-once a zero p l h = omega arith
-  new-once a (suc n) p l h =
-      rw (take-suc list n 0 l, occurs-snoc a (take n list) (getD list n 0)) (
-      split (eqb (getD list n 0) a)
-      (λ t. let e : getD list n 0 ≡ a = eqb-true (getD list n 0) a t in
-      let z = absent n (h n (omega arith)) (omega arith) in
-      rw t (omega (arith, rw e at z)))
-      (λ t. rw t (omega (arith, new-once a n p (omega arith) (λ i m. h i (omega arith))))))
+  -- and one more
+  pub stamped-more : (n : ℕ) → getD list n 0 < length stamps → Stamped list n stamp stamps → Stamped list (n + 1) stamp (set stamps (getD list n 0) stamp)
+  stamped-more n l h = record {
+    before = λ a. split (eqb word a)
+        (λ t. let e : word ≡ a = eqb-true word a t in rw (← e, getD-set-same stamps word stamp 0 l) (omega arith))
+        (λ t. let m : (word ≡ a → ⊥) = eqb-false word a t in rw (getD-set-other stamps word a stamp 0 (λ e. m (sym e))) (h .before a));
+    new = λ a. step a ∙ ap (λ (x : Bool). x && not (eqb word a)) (h .new a) ∙ sym (all-more (λ m. test (differ (getD list m 0) a)) n);
+  }
+    where
+      word : ℕ
+      word = getD list n 0
 
-  -- and the other way round
-  once-new : (n : ℕ) → ((a : ℕ) → occurs (suc a) (take n list) ≤ 1) → n ≤ length list → (i : ℕ) → i < n → Holds (newIn list i)
-  once-new n h l i m some j k e =
-      let a = getD list i 0 - 1 in
-      let up : suc a ≡ getD list i 0 = omega (arith, some) in
-      let long : length (take n list) ≡ n = omega (arith, length-take n list) in
-      let same : j ≡ i = occurs-once (suc a) (take n list) (h a) j i (omega (arith, long)) (omega (arith, long)) (getD-take n list j 0 (omega arith) ∙ e ∙ sym up) (getD-take n list i 0 m ∙ sym up) in
-      omega arith
-
-  -- THE LAW: where each word was marked, none was marked twice exactly where none is there twice
-  pub new-told : (n : ℕ) {r : Bool} {s′ : List ℕ} → n ≤ length list → Added (λ d. occurs (suc d) (take n list)) r (replicate 1 0) s′ → r ≡ test (each n (λ i. newIn list i))
-  new-told n {r} {s′} l a =
-      sym (same-test (each n (λ i. newIn list i)) r
-      (λ h. split r (λ t. t) (λ f.
-      let w = a .twice f in
-      absurd (omega (arith, w .1, ap boolByte (clear-none 1 (w .0)), new-once (suc (w .0)) n (omega arith) l h))))
-      (λ t. once-new n (λ d. omega (arith, a .once t d, ap boolByte (clear-none 1 d), flag≤ (free s′ d))) l))
+      -- a place is then without the stamp where it was and is not the word's
+      step : (a : ℕ) → not (eqb (getD (set stamps word stamp) a 0) stamp) ≡ not (eqb (getD stamps a 0) stamp) && not (eqb word a)
+      step a = split (eqb word a)
+          (λ t. let e : word ≡ a = eqb-true word a t in rw (← e, getD-set-same stamps word stamp 0 l, eq-eqb stamp stamp refl, eq-eqb word word refl) (and-no (not (eqb (getD stamps word 0) stamp))))
+          (λ t. let m : (word ≡ a → ⊥) = eqb-false word a t in rw (getD-set-other stamps word a stamp 0 (λ e. m (sym e)), t) (and-yes (not (eqb (getD stamps a 0) stamp))))
 
 -- ---- the seats of one bus
 module _ (row : List ℕ) (limit : ℕ) (list : List ℕ) where
@@ -124,10 +90,10 @@ module _ (row : List ℕ) (limit : ℕ) (list : List ℕ) where
       let z = reads (each MOST-SEATS (λ n. imp (le 0 n) (eq (getD list n 0) 0))) .0 (sym t) in
       sym (reads (rowIn row limit list) .1 (λ n l some. absurd (some (z n l (omega arith))), λ n l some. absurd (some (z n l (omega arith)))))
 
-  -- live actors are in slots of one word
-  pub row-below : Inside row → Holds (each MOST-SEATS (λ n. sitterIn row limit (getD list n 0) n)) → Below (suc WORD-BITS) MOST-SEATS list
+  -- each word has its place
+  pub row-below : {n : ℕ} → Spans n row → Holds (each MOST-SEATS (λ n. sitterIn row limit (getD list n 0) n)) → Below n MOST-SEATS list
   row-below w h n l =
-      elim (decLt 0 (getD list n 0)) [ yes m ↦ let q = w .slots (getD list n 0) (h n l (λ z. omega arith) .1) in omega (arith, q .1) | no m ↦ omega arith ]
+      elim (decLt 0 (getD list n 0)) [ yes m ↦ w .live (getD list n 0) (h n l (λ z. omega arith) .1) .1 | no m ↦ omega (arith, w .none) ]
 
 -- ---- as the rules have them
 module _ (s : State) {row : List ℕ} (h : Standing (s STATE) row) (b : ℕ) where
@@ -161,7 +127,7 @@ module _ (s : State) {row : List ℕ} (h : Standing (s STATE) row) (b : ℕ) whe
 module _ (s : State) {row : List ℕ} (h : Standing (s STATE) row) (n : ℕ) (z : n ≡ head s BUSES) (few : n ≤ MOST-BUSES) (made : Holds (each MOST-BUSES (λ b. busRule s b))) where
   -- what is tested of them
   abbrev pub seated : Rule
-  seated = both (each n (λ b. rowIn row (at s BUS-SEATS b) (seatsOf s h b))) (each ALL-SEATS (λ i. imp (le (MOST-SEATS * n) i) (eq (at s SEAT i) 0)))
+  seated = both (rowsIn row (s SEAT) (s BUS-SEATS) n) (each ALL-SEATS (λ i. imp (le (MOST-SEATS * n) i) (eq (at s SEAT i) 0)))
 
   -- a bus that is not made has no seats
   no-seats : (b : ℕ) → n ≤ b → b < MOST-BUSES → at s BUS-SEATS b ≡ 0

@@ -32,7 +32,7 @@ use Rattle.tables.specs.Columns.{ARRIVAL, ARRIVED, DATA-FREE, ISSUE, ISSUED, MA
 use Rattle.tables.specs.Sizes.{BIT-WORDS, COLUMN-BITS}
 use Rattle.tables.specs.State.{State, at, head, size, view, Room}
 use Rattle.tables.proofs.ViewLaws.{view-full}
-use Rattle.sound.specs.Marks.{Added, AddedBoth, Below, Ended, Flags, OTHERS, Resting, fullRule}
+use Rattle.sound.specs.Marks.{Added, AddedBoth, AllResting, Below, Ended, Flags, OTHERS, Resting, fullRule, rests}
 use Rattle.sound.proofs.WordLaws.{free-at}
 use Rattle.sound.proofs.ListLaws.{same-rule}
 
@@ -368,12 +368,28 @@ flag-one : (b : Bool) → eqb (boolByte b) 1 ≡ b
 flag-one true = refl
 flag-one false = refl
 
-not-resting : (states : List ℕ) (n word : ℕ) → Resting states n word → n ≤ WORD-BITS → (a : ℕ) → a < n →
-    boolByte (free (word ∷ (0 ∷ (0 ∷ (0 ∷ [])))) a) + boolByte (eqb (getD states a 0) RUNNABLE) ≡ 1
-not-resting states n word h b a l =
-    let d : a / WORD-BITS ≡ 0 = omega arith in
-    let m : a % WORD-BITS ≡ a = omega arith in
-    rw (d, m, h a l, flag-one (not (eqb (getD states a 0) RUNNABLE))) (flag-not (eqb (getD states a 0) RUNNABLE))
+-- the slots that are not runnable, word by word, and all
+by-word : {states seen : List ℕ} {n : ℕ} → length seen ≡ BIT-WORDS → n ≤ COLUMN-BITS → ((j : ℕ) → j < BIT-WORDS → Resting states n j (getD seen j 0)) → AllResting states n seen
+by-word {states} {seen} {n} e b h = record {
+  long = e;
+  slots = λ a l.
+      let back : WORD-BITS * (a / WORD-BITS) + a % WORD-BITS ≡ a = omega arith in
+      rw (h (a / WORD-BITS) (omega arith) (a % WORD-BITS) (omega arith), flag-one (rests states (WORD-BITS * (a / WORD-BITS) + a % WORD-BITS))) (ap (rests states) back);
+}
+
+pub rest-all : {states : List ℕ} {n a b c d : ℕ} → n ≤ COLUMN-BITS → Resting states n 0 a → Resting states n 1 b → Resting states n 2 c → Resting states n 3 d → AllResting states n (a ∷ (b ∷ (c ∷ (d ∷ []))))
+rest-all {states} {n} {a} {b} {c} {d} few h₀ h₁ h₂ h₃ = by-word refl few words
+  where
+    words : (j : ℕ) → j < BIT-WORDS → Resting states n j (getD (a ∷ (b ∷ (c ∷ (d ∷ [])))) j 0)
+    words zero l = h₀
+    words (suc zero) l = h₁
+    words (suc (suc zero)) l = h₂
+    words (suc (suc (suc zero))) l = h₃
+    words (suc (suc (suc (suc j)))) l = absurd (omega arith)
+
+-- a slot is one of them, or runnable
+not-resting : {states seen : List ℕ} {n : ℕ} → AllResting states n seen → (a : ℕ) → a < n → boolByte (free seen a) + boolByte (eqb (getD states a 0) RUNNABLE) ≡ 1
+not-resting {states} h a l = rw (h .slots a l) (flag-not (eqb (getD states a 0) RUNNABLE))
 
 -- ---- what the plain rules say
 module _ (k : Caps) (s : State) where
@@ -440,13 +456,13 @@ module _ (k : Caps) (w p : List ℕ) (room : Room k w p) (h : Holds (plainRules 
   states-long y = rw y (omega (arith, view-full k w p (room .words) STATE (lit< tt)))
 
   -- so the marks tell the rule of each list
-  pub once-told : {n word : ℕ} {list states seen′ : List ℕ} {r q : Bool} → n ≡ head (view k w p) QUEUED → list ≡ view k w p QUEUE → states ≡ view k w p STATE → Resting states (k .actors) word →
-      Added (λ e. occurs e (take n list)) r (word ∷ (0 ∷ (0 ∷ (0 ∷ [])))) seen′ → q ≡ test (each (k .actors) (λ e. is (free seen′ e))) →
+  pub once-told : {n : ℕ} {list states seen seen′ : List ℕ} {r q : Bool} → n ≡ head (view k w p) QUEUED → list ≡ view k w p QUEUE → states ≡ view k w p STATE → AllResting states (k .actors) seen →
+      Added (λ e. occurs e (take n list)) r seen seen′ → q ≡ test (each (k .actors) (λ e. is (free seen′ e))) →
       r && q ≡ test (each (k .actors) (λ a. onceRule (view k w p) a))
-  once-told {n} {word} {list} {states} z y x rest a u =
+  once-told {n} {list} {states} z y x rest a u =
       let s = view k w p in
       named-once (k .actors) (λ e. occurs e (take n list)) (λ e. eqb (getD states e 0) RUNNABLE) a u
-      (not-resting states (k .actors) word rest (room .caps .fewActors))
+      (not-resting rest)
       (named-first (k .actors) n list (queue-below z y .1))
       ∙ rw (z, y, x)
 

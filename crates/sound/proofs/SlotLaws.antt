@@ -52,7 +52,7 @@ module _ (s : State) (state a : ℕ) where
   waits-no n =
       same-rule (waitingRule s state a) (restRule s a)
       (λ q. q .0 n)
-      (λ q. let (_, (_, deadline)) = q in (λ z. q, ((omega arith, omega arith), ((omega arith, λ l. absurd (omega arith)), λ m. absurd (m deadline)))))
+      (λ q. let (_, (_, deadline)) = q in (λ z. q, (omega arith, ((omega arith, λ l. absurd (omega arith)), λ m. absurd (m deadline)))))
 
 -- ---- each slot, and each word of the queue
 pub slot-parts : (k : Caps) (s : State) (n : ℕ) → test (both (each n (λ a. ownRule k s a)) (each n (λ a. queueRule k s a))) ≡ test (each n (λ a. slotRule k s a))

@@ -1,22 +1,21 @@
 -- Links, monitors and timers: turn by turn, by the row of how slots stand, and as the rules have them.
-use Prim.Native.Nat.{ℕ, _+_, _-_, _≤_, _<_}
-use native.Mathlib.Decide.{decLt}
+use Prim.Native.Nat.{ℕ, suc, _+_, _-_, _≤_, _<_}
 use native.Mathlib.Omega.{arith}
 use mathlib.Core.Path.{_≡_, refl, sym, ap, _∙_}
 use mathlib.Core.Bool.{Bool, true, false, _&&_}
 use mathlib.Core.List.{List}
-use lib.ListN.{length, getD, replicate, List·getD-eq-default}
+use lib.ListN.{length, getD}
 use lib.Bits.{bitOr}
 use lib.Dec.{eqb, leb}
-use borrow.Author.Tests.{eqb-true, eqb-false, eq-eqb, ne-eqb, le-leb, leb-true}
+use borrow.Author.Tests.{eqb-true, eqb-false, eq-eqb, ne-eqb, le-leb}
 use Rattle.pools.proofs.BoolLaws.{split, true-false, and-left, and-right}
-use Rattle.rules.specs.Rule.{test, each, both, is, le, eq}
+use Rattle.rules.specs.Rule.{test, each, both, imp, is, le, eq}
 use Rattle.rules.specs.Sound.{intervalRule, linkRule, pairRule, monitorRule, timerRule}
 use Rattle.rules.specs.Terms.{alive}
 use Rattle.rules.proofs.Kept.Rules.{reads, all-none, all-more, all-same, and-same}
-use Rattle.sound.specs.Pairs.{Marked}
-use Rattle.sound.specs.Standing.{Standing, livesIn}
-use Rattle.sound.specs.Ties.{endsIn, linkIn, pairIn, monitorIn, timerIn, Inside, LinkSeen}
+use Rattle.sound.specs.Pairs.{Marked, Square}
+use Rattle.sound.specs.Standing.{Clear, Spans, Standing, livesIn}
+use Rattle.sound.specs.Ties.{endsIn, linkIn, linksIn, pairIn, monitorIn, timerIn, LinkSeen}
 use Rattle.sound.proofs.ListLaws.{same-rule}
 use Rattle.sound.proofs.PairLaws.{marked-first, marked-none, rule-none, marked-more, rule-more}
 use Rattle.sound.proofs.JoinLaws.{or-test, pick-no, pick-yes}
@@ -39,15 +38,19 @@ and-true′ : (x : Bool) → x ≡ x && true
 and-true′ true = refl
 and-true′ false = refl
 
-module _ {row : List ℕ} (w : Inside row) where
+module _ {side : ℕ} {row : List ℕ} (w : Spans (suc side) row) where
   -- its ends are in the square
-  pub ends-inside : (one two : ℕ) → test (endsIn row one two) ≡ true → ((1 ≤ one) × (one ≤ 64)) × ((1 ≤ two) × (two ≤ 64))
-  ends-inside one two t = let (oneLives, (twoLives, _)) = reads (endsIn row one two) .0 t in (w .slots one oneLives, w .slots two twoLives)
+  pub ends-inside : (one two : ℕ) → test (endsIn row one two) ≡ true → ((1 ≤ one) × (one ≤ side)) × ((1 ≤ two) × (two ≤ side))
+  ends-inside one two t =
+      let (oneLives, (twoLives, _)) = reads (endsIn row one two) .0 t in
+      let (up, below) = w .live one oneLives in
+      let (above, under) = w .live two twoLives in
+      ((up, omega (arith, below)), (above, omega (arith, under)))
 
   -- what is told of link i where the square has the pairs before it, and the square then
-  link-more : (ones twos : List ℕ) (i : ℕ) {seen seen′ : List ℕ} {r : Bool} → Marked ones twos i seen →
-      LinkSeen row (getD ones i 0) (getD twos i 0) seen r seen′ →
-      (r ≡ test (linkIn row (getD ones i 0) (getD twos i 0)) && test (pairIn ones twos i)) × (r ≡ true → Marked ones twos (i + 1) seen′)
+  link-more : (ones twos : List ℕ) (i : ℕ) {seen seen′ : List ℕ} {r : Bool} → Marked side ones twos i seen →
+      LinkSeen side row (getD ones i 0) (getD twos i 0) seen r seen′ →
+      (r ≡ test (linkIn row (getD ones i 0) (getD twos i 0)) && test (pairIn ones twos i)) × (r ≡ true → Marked side ones twos (i + 1) seen′)
   link-more ones twos i {seen} {seen′} {r} m q =
       let one = getD ones i 0 in let two = getD twos i 0 in
       split (eqb one 0)
@@ -61,12 +64,12 @@ module _ {row : List ℕ} (w : Inside row) where
 
 -- ---- the links, turn by turn
 -- i links are tested, with their pairs; while all are good the square has these
-pub record Turned (row ones twos : List ℕ) (i : ℕ) (ok : Bool) (seen : List ℕ) : Type 0 where
-  pub rule : ok ≡ test (both (each i (λ e. linkIn row (getD ones e 0) (getD twos e 0))) (each i (λ e. pairIn ones twos e)))
-  pub marks : ok ≡ true → Marked ones twos i seen
+pub record Turned (side : ℕ) (row ones twos : List ℕ) (i : ℕ) (ok : Bool) (seen : List ℕ) : Type 0 where
+  pub rule : ok ≡ test (linksIn row ones twos i)
+  pub marks : ok ≡ true → Marked side ones twos i seen
 
-pub turned-none : (row ones twos : List ℕ) → Turned row ones twos 0 true (replicate 64 0)
-turned-none row ones twos = record { rule = sym (and-same (all-none _) (all-none _)); marks = λ k. marked-first ones twos }
+pub turned-none : {side : ℕ} {seen : List ℕ} (row ones twos : List ℕ) → Square side (length seen) → Clear seen → Turned side row ones twos 0 true seen
+turned-none row ones twos q z = record { rule = sym (and-same (all-none _) (all-none _)); marks = λ k. marked-first ones twos q z }
 
 four : (a b c d : Bool) → (a && b) && (c && d) ≡ (a && c) && (b && d)
 four true true c d = refl
@@ -74,9 +77,9 @@ four true false true d = refl
 four true false false d = refl
 four false b c d = refl
 
-pub turned-more : {row ones twos : List ℕ} (i : ℕ) {ok r : Bool} {seen seen′ : List ℕ} → Inside row → Turned row ones twos i ok seen →
-    LinkSeen row (getD ones i 0) (getD twos i 0) seen r seen′ → Turned row ones twos (i + 1) (ok && r) seen′
-turned-more {row} {ones} {twos} i {ok} {r} {seen} {seen′} w h q = record {
+pub turned-more : {side : ℕ} {row ones twos : List ℕ} (i : ℕ) {ok r : Bool} {seen seen′ : List ℕ} → Spans (suc side) row → Turned side row ones twos i ok seen →
+    LinkSeen side row (getD ones i 0) (getD twos i 0) seen r seen′ → Turned side row ones twos (i + 1) (ok && r) seen′
+turned-more {side} {row} {ones} {twos} i {ok} {r} {seen} {seen′} w h q = record {
   rule = told ∙ ap (λ (x : Bool). x && (l && p)) (h .rule) ∙ four links pairs l p ∙ sym (and-same (all-more (λ e. test (linkIn row (getD ones e 0) (getD twos e 0))) i) (all-more (λ e. test (pairIn ones twos e)) i));
   marks = λ k. link-more w ones twos i (h .marks (and-left ok r k)) q .1 (and-right ok r k);
 }
@@ -127,21 +130,19 @@ module _ (row : List ℕ) (owner age due interval : ℕ) where
       (λ ((lives, (born, age)), times). ((age, λ q. born), (λ z. absurd (n z), λ q. (lives, times))))
 
 -- ---- as the rules have them
-alive-inside : (states : List ℕ) (a : ℕ) → alive states a ≡ true → a < length states
-unfolding alive
-alive-inside states a t =
-    elim (decLt a (length states)) [ yes l ↦ l | no n ↦ absurd (let z : getD states a 0 ≡ 0 = List·getD-eq-default states 0 (omega arith) in true-false {P = ⊥} true refl (sym (rw z at t))) ]
-
-pub inside : {states row : List ℕ} → length states ≤ 64 → Standing states row → Inside row
-inside {states} {row} l h = record {
-  slots = λ word t.
-      let q : leb 1 word && alive states (word - 1) ≡ true = sym (lives-in h word) ∙ t in
-      let a = alive-inside states (word - 1) (and-right (leb 1 word) (alive states (word - 1)) q) in
-      (leb-true 1 word (and-left (leb 1 word) (alive states (word - 1)) q), omega arith);
-}
+-- where no link is in use the words of the other ends decide
+pub links-unused : (row ones twos : List ℕ) (n : ℕ) → test (each n (λ i. imp (le 0 i) (eq (getD ones i 0) 0))) ≡ true →
+    test (each n (λ i. imp (le 0 i) (eq (getD twos i 0) 0))) ≡ test (linksIn row ones twos n)
+links-unused row ones twos n t =
+    same-rule (linksIn row ones twos n) (each n (λ i. imp (le 0 i) (eq (getD twos i 0) 0)))
+    (λ (links, _) i l z. links i l .0 (unused i l))
+    (λ h. (λ e l. (λ z. h e l (omega arith), λ m. absurd (m (unused e l))), λ e l m. absurd (m (unused e l))))
+  where
+    unused : (e : ℕ) → e < n → getD ones e 0 ≡ 0
+    unused e l = reads (each n (λ i. imp (le 0 i) (eq (getD ones i 0) 0))) .0 t e l (omega arith)
 
 module _ (s : State) {row : List ℕ} (h : Standing (s STATE) row) (n : ℕ) where
-  pub links-same : test (both (each n (λ e. linkIn row (at s LINK-ONE e) (at s LINK-TWO e))) (each n (λ e. pairIn (s LINK-ONE) (s LINK-TWO) e))) ≡ test (both (each n (λ e. linkRule s e)) (each n (λ e. pairRule s e)))
+  pub links-same : test (linksIn row (s LINK-ONE) (s LINK-TWO) n) ≡ test (both (each n (λ e. linkRule s e)) (each n (λ e. pairRule s e)))
   unfolding pairRule
   links-same = and-same (all-same n _ _ (λ e l. rw (lives-in h (at s LINK-ONE e), lives-in h (at s LINK-TWO e)))) refl
 

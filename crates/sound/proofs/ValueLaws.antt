@@ -1,5 +1,5 @@
 -- Values: the row that has them, the masks of empty seats, who may read, how many a bus has, and all of it as the rules have it.
-use Prim.Native.Nat.{ℕ, suc, _+_, _-_, _*_, _/_, _^_, _≤_, _<_}
+use Prim.Native.Nat.{ℕ, suc, _+_, _-_, _*_, _/_, _%_, _^_, _≤_, _<_}
 use native.Mathlib.Decide.{decLt}
 use native.Mathlib.Omega.{arith}
 use mathlib.Core.Path.{_≡_, refl, sym, ap, _∙_}
@@ -12,8 +12,9 @@ use lib.ListN.{length, getD, set, replicate, take, drop, length-set, length-take
 use lib.Pow.{shr-lt}
 use lib.Seq.{getD-set-same, getD-set-other, getD-take, getD-drop, take-all}
 use borrow.Author.Tests.{eqb-true, eqb-false, eq-eqb, ltb-false, ltb-true, ne-eqb, not-true}
-use Rattle.pools.specs.Bits.{bit, free}
+use Rattle.pools.specs.Bits.{WORD-BITS, bit, free}
 use Rattle.pools.specs.Pool.{occurs}
+use Rattle.pools.proofs.BitLaws.{bit-none}
 use Rattle.pools.proofs.BoolLaws.{split, true-false, and-left, and-right, and-true, flag≤}
 use Rattle.pools.proofs.ListLaws.{occurs-length, occurs-place}
 use Rattle.tables.specs.declared.Caps.{Caps}
@@ -28,10 +29,10 @@ use Rattle.rules.proofs.Kept.Rules.{reads, same-test, broken, all-same}
 use Rattle.sound.specs.Kinds.{issuedRules, valueRules}
 use Rattle.sound.specs.Marks.{Added, Below}
 use Rattle.sound.specs.Values.{Counts, Empties, Empty, issueIn, maskIn, namedRule, valueIn}
-use Rattle.sound.proofs.BusLaws.{clear-none}
 use Rattle.sound.proofs.JoinLaws.{or-test}
 use Rattle.sound.proofs.ListLaws.{same-rule}
 use Rattle.sound.proofs.MarkLaws.{occurs-more, zero-names}
+use Rattle.sound.proofs.StandingLaws.{clear}
 use Rattle.sound.proofs.WordLaws.{bit-after, bit-clear, common-none, none-common}
 
 -- ---- the row: the words that count, and the others
@@ -201,6 +202,10 @@ crowds-same s h = all-same MOST-BUSES _ _ (λ b l. rw (h .of b l))
 pub values-same : (s : State) {masks : List ℕ} {made : ℕ} → Empties (s SEAT) made masks → made ≡ head s BUSES → (seen : List ℕ) (n : ℕ) →
     test (each n (λ d. valueIn masks made (head s CLOCK) (free seen d) (at s VALUE-BUS d) (at s READERS d) (at s PUBLISHED d))) ≡ test (each n (λ d. namedRule seen s d))
 values-same s m z seen n = all-same n _ _ (λ d l. value-same s m z seen d)
+
+-- nothing is marked at first
+clear-none : (n e : ℕ) → free (replicate n 0) e ≡ false
+clear-none n e = rw (clear n (e / WORD-BITS), bit-none (e % WORD-BITS))
 
 module _ (k : Caps) (s : State) where
   -- the words of a column are 0

@@ -1,5 +1,5 @@
 -- A set of entries that is marked in words of bits, one entry after the other.
-use Prim.Native.Nat.{ℕ, zero, suc, _+_, _*_, _^_, _≤_, _<_}
+use Prim.Native.Nat.{ℕ, _+_, _-_, _*_, _≤_, _<_, min}
 use mathlib.Core.Path.{_≡_}
 use mathlib.Core.Bool.{Bool, true, false, not, _&&_}
 use mathlib.Core.List.{List}
@@ -10,6 +10,7 @@ use Rattle.pools.specs.Bits.{WORD-BITS, bit, free}
 use Rattle.rules.specs.Rule.{Rule, is, lt, imp, each}
 use Rattle.rules.specs.Sound.{OWNERS}
 use Rattle.rules.specs.Terms.{RUNNABLE}
+use Rattle.tables.specs.Sizes.{BIT-WORDS}
 
 -- the set after each entry e was marked c e times: where it is so told, none was marked twice; where not, one was
 pub record Added (c : ℕ → ℕ) (told : Bool) (seen seen′ : List ℕ) : Type 0 where
@@ -41,14 +42,21 @@ Ended n list = (i : ℕ) → n ≤ i → i < length list → getD list i 0 ≡ 0
 abbrev pub Flags : (ℕ → Bool) → ℕ → ℕ → Type 0
 Flags f n word = (i : ℕ) → i < n → bit word i ≡ boolByte (f i)
 
--- of the first n slots those that are not runnable
-abbrev pub Resting : List ℕ → ℕ → ℕ → Type 0
-Resting states n word = Flags (λ a. not (eqb (getD states a 0) RUNNABLE)) n word
+-- so many of n entries have their bit in word j
+abbrev pub inWord : ℕ → ℕ → ℕ
+inWord n j = min WORD-BITS (n - WORD-BITS * j)
 
--- the number whose one bit is that of the entry that a word names, one up; 0 where it names none
-abbrev pub bitUp : ℕ → ℕ
-bitUp zero = 0
-bitUp (suc e) = 2 ^ e
+-- a slot that is not runnable
+abbrev pub rests : List ℕ → ℕ → Bool
+rests states a = not (eqb (getD states a 0) RUNNABLE)
+
+-- word j has the bits of those of the first n slots; and four words have the bits of all of them
+abbrev pub Resting : List ℕ → (n j word : ℕ) → Type 0
+Resting states n j word = Flags (λ i. rests states (WORD-BITS * j + i)) (inWord n j) word
+
+pub record AllResting (states : List ℕ) (n : ℕ) (seen : List ℕ) : Type 0 where
+  pub long : length seen ≡ BIT-WORDS
+  pub slots : (a : ℕ) → a < n → free seen a ≡ rests states a
 
 -- in word j each of n entries is marked
 abbrev pub fullRule : ℕ → List ℕ → ℕ → Rule

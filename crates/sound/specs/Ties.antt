@@ -1,5 +1,5 @@
 -- The rules of links, monitors and timers, by the row that says how the slots stand.
-use Prim.Native.Nat.{ℕ, _≤_}
+use Prim.Native.Nat.{ℕ}
 use mathlib.Core.Path.{_≡_}
 use mathlib.Core.Bool.{Bool, true, false, not}
 use mathlib.Core.List.{List}
@@ -23,6 +23,10 @@ linkIn row one two = both (imp (eq one 0) (eq two 0)) (imp (differ one 0) (endsI
 abbrev pub pairIn : List ℕ → List ℕ → ℕ → Rule
 pairIn ones twos e = imp (differ (getD ones e 0) 0) (each e (λ d. is (not (joins ones twos (getD ones e 0) (getD twos e 0) d))))
 
+-- the first n links, and their pairs
+abbrev pub linksIn : List ℕ → List ℕ → List ℕ → ℕ → Rule
+linksIn row ones twos n = both (each n (λ e. linkIn row (getD ones e 0) (getD twos e 0))) (each n (λ e. pairIn ones twos e))
+
 abbrev pub monitorIn : List ℕ → ℕ → ℕ → ℕ → Rule
 monitorIn row watcher watched age = both (ageRule watcher age) (linkIn row watcher watched)
 
@@ -32,15 +36,11 @@ timerIn row owner age due interval =
     (both (imp (eq owner 0) (both (eq due 0) (eq interval 0)))
     (imp (differ owner 0) (both (is (livesIn row owner)) (both (le due DUE-END) (intervalRule interval)))))
 
--- the row has its live actors in slots of the square
-pub record Inside (row : List ℕ) : Type 0 where
-  pub slots : (word : ℕ) → livesIn row word ≡ true → (1 ≤ word) × (word ≤ 64)
-
 -- what is told of a link, and the square after it
-pub record LinkSeen (row : List ℕ) (one two : ℕ) (seen : List ℕ) (r : Bool) (seen′ : List ℕ) : Type 0 where
+pub record LinkSeen (side : ℕ) (row : List ℕ) (one two : ℕ) (seen : List ℕ) (r : Bool) (seen′ : List ℕ) : Type 0 where
   -- it is not in use
   pub none : one ≡ 0 → (r ≡ test (linkIn row one two)) × (seen′ ≡ seen)
   -- it is in use, and joins two live actors
-  pub good : (one ≡ 0 → ⊥) → test (endsIn row one two) ≡ true → PairSeen one two seen r seen′
+  pub good : (one ≡ 0 → ⊥) → test (endsIn row one two) ≡ true → PairSeen side one two seen r seen′
   -- it does not
   pub bad : (one ≡ 0 → ⊥) → test (endsIn row one two) ≡ false → r ≡ false

@@ -1,24 +1,22 @@
 // The rules of buses: what each is made with, and who sits on it.
 ghost use mathlib.Core.Path.{_≡_};
-ghost use Prim.Native.Nat.{suc, _*_, _≤_};
-ghost use lib.ListN.{length, getD, take, drop};
-ghost use Rattle.pools.specs.Bits.{WORD-BITS};
+ghost use Prim.Native.Nat.{suc, _≤_};
+ghost use lib.ListN.{length, getD};
 ghost use Rattle.rules.specs.Rule.{test, each, Holds};
 ghost use Rattle.rules.specs.Sound.{busRule, headRule, rowRule};
 ghost use Rattle.rules.specs.Host.{Tests};
-ghost use Rattle.sound.specs.Buses.{settingsIn, busIn, sitterIn, newIn, rowIn};
+ghost use Rattle.sound.specs.Buses.{settingsIn, busIn, sitterIn, newIn, rowIn, rowsIn, Before, Seats, Told};
 ghost use Rattle.sound.specs.Kinds.{busRules};
-ghost use Rattle.sound.specs.Marks.{Below, bitUp};
-ghost use Rattle.sound.specs.Standing.{Standing};
-ghost use Rattle.sound.specs.Ties.{Inside};
+ghost use Rattle.sound.specs.Marks.{Below};
+ghost use Rattle.sound.specs.Standing.{FEW-PLACES, PLACES, Clear, Spans, Standing};
 ghost use Rattle.tables.specs.Columns.{STATE};
-ghost use Rattle.tables.specs.Limits.{MOST-BUSES, MOST-SEATS};
-ghost use Rattle.tables.specs.Sizes.{ALL-SEATS};
+ghost use Rattle.tables.specs.Limits.{MOST-ACTORS, MOST-BUSES, MOST-SEATS};
 ghost use Rattle.tables.specs.State.{RoomWith};
 use crate::lists::zero_from;
+use crate::standing::FEW_ACTORS;
+use crate::standing::FEW_PLACES;
 use crate::standing::PLACES;
 use crate::standing::lives;
-use pools::bits::power;
 use tables::Caps;
 use tables::columns::BUS_AGE;
 use tables::columns::BUS_READS;
@@ -86,7 +84,7 @@ fn made(t: &[u64], p: &[u8], k: Caps) -> bool
 
 // ---- who sits on a bus
 // The words of its seats: each is 0, or names a live actor in one of so many seats.
-fn sitters_ok(row: &[u8; PLACES], seats: &[u64], limit: u64) -> bool
+fn sitters_ok(row: &[u8], seats: &[u64], limit: u64) -> bool
     requires { ⌜ MOST-SEATS ≤ length (now seats) ⌝ }
     ensures { λ r. ⌜ r ≡ test (each MOST-SEATS (λ n. sitterIn (now (row .entry)) limit (getD (now (seats .entry)) n 0) n)) ⌝ }
 {
@@ -100,78 +98,100 @@ fn sitters_ok(row: &[u8; PLACES], seats: &[u64], limit: u64) -> bool
     ok
 }
 
-// The bit of the slot that a word names, one up; no bit where it names none.
-fn bit_up(a: usize) -> u64
-    requires { ⌜ a ≤ WORD-BITS ⌝ }
-    ensures { λ r. ⌜ r ≡ bitUp a ⌝ }
+// Is none of them twice there? Each gets the stamp of this bus, which nobody has before.
+fn none_twice(seats: &[u64], stamps: &mut [u8], stamp: u8) -> bool
+    requires { ⌜ (MOST-SEATS ≤ length (now seats)) × Below (length (now stamps)) MOST-SEATS (now seats) × Before stamp (now stamps) ⌝ }
+    ensures { λ r. ⌜ Told (each MOST-SEATS (λ n. newIn (now (seats .entry)) n)) stamp r (now (stamps .exit)) ⌝ }
 {
-    if a == 0 {
-        return 0;
-    }
-    power(a - 1)
-}
-
-// Is none of them twice there? Each slot is marked in one word.
-fn none_twice(seats: &[u64]) -> bool
-    requires { ⌜ (MOST-SEATS ≤ length (now seats)) × Below (suc WORD-BITS) MOST-SEATS (now seats) ⌝ }
-    ensures { λ r. ⌜ r ≡ test (each MOST-SEATS (λ n. newIn (now (seats .entry)) n)) ⌝ }
-{
-    let mut seen: u64 = 0;
     let mut ok = true;
     let mut n = 0;
     while n < MOST_SEATS {
-        let bit = bit_up(seats[n] as usize);
-        ok = ok & ((seen & bit) == 0);
-        seen = seen | bit;
+        let word = seats[n];
+        let place = word as usize;
+        ok = ok & (!!(word == 0) | !(stamps[place] == stamp));
+        stamps[place] = stamp;
         n += 1;
     }
     ok
 }
 
 // Both. Where nobody sits on it one OR tells.
-fn row_ok(row: &[u8; PLACES], seats: &[u64], limit: u64) -> bool
-    requires { ⌜ Inside (now row) × (MOST-SEATS ≤ length (now seats)) ⌝ }
-    ensures { λ r. ⌜ r ≡ test (rowIn (now (row .entry)) limit (now (seats .entry))) ⌝ }
+fn row_ok(row: &[u8], stamps: &mut [u8], stamp: u8, seats: &[u64], limit: u64) -> bool
+    requires { ⌜ Spans (length (now stamps)) (now row) × Before stamp (now stamps) × (MOST-SEATS ≤ length (now seats)) ⌝ }
+    ensures { λ r. ⌜ Told (rowIn (now (row .entry)) limit (now (seats .entry))) stamp r (now (stamps .exit)) ⌝ }
 {
     if zero_from(seats, 0, MOST_SEATS) {
         return true;
     }
     if sitters_ok(row, seats, limit) {
-        return none_twice(seats);
+        return none_twice(seats, stamps, stamp);
     }
     false
 }
 
 // The first n buses.
-fn rows_in(row: &[u8; PLACES], seats: &[u64], limits: &[u64], n: usize) -> bool
-    requires { ⌜ Inside (now row) × (n ≤ MOST-BUSES) × (ALL-SEATS ≤ length (now seats)) × (n ≤ length (now limits)) ⌝ }
-    ensures { λ r. ⌜ r ≡ test (each n (λ b. rowIn (now (row .entry)) (getD (now (limits .entry)) b 0) (take MOST-SEATS (drop (MOST-SEATS * b) (now (seats .entry)))))) ⌝ }
+fn rows_in(row: &[u8], stamps: &mut [u8], seats: &[u64], limits: &[u64], n: usize) -> bool
+    requires { ⌜ Spans (length (now stamps)) (now row) × Clear (now stamps) × Seats (now seats) (now limits) n ⌝ }
+    ensures { λ r. ⌜ r ≡ test (rowsIn (now (row .entry)) (now (seats .entry)) (now (limits .entry)) n) ⌝ }
 {
     let mut ok = true;
     let mut b = 0;
     while b < n {
         let from = MOST_SEATS * b;
-        ok = ok & row_ok(row, &seats[from..from + MOST_SEATS], limits[b]);
+        let end = from + MOST_SEATS;
+        let stamp = (b + 1) as u8;
+        ok = ok & row_ok(row, stamps, stamp, &seats[from..end], limits[b]);
         b += 1;
     }
     ok
 }
 
+// The same, by stamps that are made here: for a box of few actors, and for any.
+fn rows_few(row: &[u8], seats: &[u64], limits: &[u64], n: usize) -> bool
+    requires { ⌜ Spans FEW-PLACES (now row) × Seats (now seats) (now limits) n ⌝ }
+    ensures { λ r. ⌜ r ≡ test (rowsIn (now (row .entry)) (now (seats .entry)) (now (limits .entry)) n) ⌝ }
+{
+    let mut stamps = [0u8; FEW_PLACES];
+    rows_in(row, &mut stamps, seats, limits, n)
+}
+
+fn rows_many(row: &[u8], seats: &[u64], limits: &[u64], n: usize) -> bool
+    requires { ⌜ Spans PLACES (now row) × Seats (now seats) (now limits) n ⌝ }
+    ensures { λ r. ⌜ r ≡ test (rowsIn (now (row .entry)) (now (seats .entry)) (now (limits .entry)) n) ⌝ }
+{
+    let mut stamps = [0u8; PLACES];
+    rows_in(row, &mut stamps, seats, limits, n)
+}
+
+// The same, by as many stamps as the box asks for: none where no bus is made.
+fn rows_of(row: &[u8], seats: &[u64], limits: &[u64], n: usize, actors: usize) -> bool
+    requires { ⌜ Spans (suc actors) (now row) × (actors ≤ MOST-ACTORS) × Seats (now seats) (now limits) n ⌝ }
+    ensures { λ r. ⌜ r ≡ test (rowsIn (now (row .entry)) (now (seats .entry)) (now (limits .entry)) n) ⌝ }
+{
+    if n == 0 {
+        return true;
+    }
+    if actors <= FEW_ACTORS {
+        return rows_few(row, seats, limits, n);
+    }
+    rows_many(row, seats, limits, n)
+}
+
 // All of them: on those that are not made nobody sits.
-fn rows(t: &[u64], p: &[u8], k: Caps, row: &[u8; PLACES]) -> bool
+fn rows(t: &[u64], p: &[u8], k: Caps, row: &[u8]) -> bool
     requires { ⌜ RoomWith k (λ s. Standing (s STATE) (now row) × Holds (headRule k s) × Holds (each MOST-BUSES (λ b. busRule s b))) (now t) (now p) ⌝ }
     ensures { λ r. ⌜ Tests k (λ s. each MOST-BUSES (λ b. rowRule s b)) (now (t .entry)) (now (p .entry)) r ⌝ }
 {
     let n = get(t, p, k, BUSES, 0) as usize;
     let seats = column(t, p, k, SEAT);
     let limits = column(t, p, k, BUS_SEATS);
-    let seated = rows_in(row, seats, limits, n);
+    let seated = rows_of(row, seats, limits, n, k.actors);
     let rest = zero_from(seats, MOST_SEATS * n, ALL_SEATS);
     seated & rest
 }
 
 // The buses, and then who sits on them.
-pub fn buses(t: &[u64], p: &[u8], k: Caps, row: &[u8; PLACES]) -> bool
+pub fn buses(t: &[u64], p: &[u8], k: Caps, row: &[u8]) -> bool
     requires { ⌜ RoomWith k (λ s. Standing (s STATE) (now row) × Holds (headRule k s)) (now t) (now p) ⌝ }
     ensures { λ r. ⌜ Tests k (λ s. busRules s) (now (t .entry)) (now (p .entry)) r ⌝ }
 {

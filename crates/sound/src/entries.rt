@@ -26,7 +26,6 @@ use tables::columns::WANT_CLASS;
 use tables::columns::WANT_SENDER;
 use tables::columns::WANT_TAG;
 use tables::limits::ANY_CLASS;
-use tables::limits::ANY_SENDER;
 use tables::limits::ANY_TAG;
 use tables::limits::DEADLINE_END;
 use tables::limits::LAST_LEVEL;
@@ -82,12 +81,11 @@ fn wait_ok(t: &[u64], p: &[u8], k: Caps, a: u64) -> bool
     requires { ⌜ Room k (now t) (now p) ⌝ }
     ensures { λ r. ⌜ Tests k (λ s. waitRule s a) (now (t .entry)) (now (p .entry)) r ⌝ }
 {
-    let sender = get(t, p, k, WANT_SENDER, a);
     let class = get(t, p, k, WANT_CLASS, a);
     let tag = get(t, p, k, WANT_TAG, a);
     let deadline = get(t, p, k, DEADLINE, a);
     let clock = get(t, p, k, CLOCK, 0);
-    ((sender <= ANY_SENDER) & (tag <= ANY_TAG))
+    (tag <= ANY_TAG)
         & (((class <= ANY_CLASS) & (!(4 < class) | (class == ANY_CLASS)))
             & (!!(deadline == 0) | ((clock < deadline) & (deadline <= DEADLINE_END))))
 }

@@ -11,7 +11,6 @@ use crate::entries::slot_ok;
 use crate::entries::spare_ok;
 use crate::lists::list_ok;
 use crate::mails::kept;
-use crate::standing::PLACES;
 use tables::Caps;
 use tables::columns::ARRIVAL;
 use tables::columns::ARRIVED;
@@ -60,7 +59,7 @@ pub fn slots(t: &[u64], p: &[u8], k: Caps) -> bool
 }
 
 // The mailbox entries, and then the list of arrivals.
-pub fn boxes(t: &[u64], p: &[u8], k: Caps, row: &[u8; PLACES]) -> bool
+pub fn boxes(t: &[u64], p: &[u8], k: Caps, row: &[u8]) -> bool
     requires { ⌜ RoomWith k (λ s. Standing (s STATE) (now row)) (now t) (now p) ⌝ }
     ensures { λ r. ⌜ Tests k (λ s. both (each (k .mails) (λ i. boxRule k s i)) (filterRules k s)) (now (t .entry)) (now (p .entry)) r ⌝ }
 {

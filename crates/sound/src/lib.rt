@@ -1,10 +1,11 @@
 // Do two lent buffers hold a sound runtime?
 ghost use mathlib.Core.Path.{_≡_};
+ghost use Prim.Native.Nat.{_≤_};
 ghost use Rattle.rules.specs.Rule.{both, test, Holds};
 ghost use Rattle.rules.specs.Sound.{rangeRule, sizeRule, fitRule, capsRule, headRule, plainRules, acrossRules, soundAt, soundRule};
 ghost use Rattle.rules.specs.Host.{Tests};
 ghost use Rattle.sound.specs.Kinds.{frontRules, bitRules, boxRules, dataRules, timeRules, busRules, valueRules, filterRules, pairRules, issuedRules, countRules, earlyRules, bodyRules};
-ghost use Rattle.sound.specs.Standing.{Standing};
+ghost use Rattle.sound.specs.Standing.{FEW-ACTORS, Standing};
 ghost use Rattle.tables.specs.Columns.{STATE};
 ghost use Rattle.tables.specs.State.{Room, RoomWith};
 use buses::buses;
@@ -14,6 +15,8 @@ use every::spares;
 use marks::counted_ok;
 use marks::once_ok;
 use messages::datas;
+use standing::FEW_ACTORS;
+use standing::FEW_PLACES;
 use standing::PLACES;
 use standing::stand;
 use tables::Caps;
@@ -143,7 +146,7 @@ fn all_bits_ok(t: &[u64], p: &[u8], k: Caps) -> bool
 }
 
 // The slots and the mailbox entries, with the filters.
-fn boxes_ok(t: &[u64], p: &[u8], k: Caps, row: &[u8; PLACES]) -> bool
+fn boxes_ok(t: &[u64], p: &[u8], k: Caps, row: &[u8]) -> bool
     requires { ⌜ RoomWith k (λ s. Standing (s STATE) (now row)) (now t) (now p) ⌝ }
     ensures { λ r. ⌜ Tests k (λ s. both (boxRules k s) (filterRules k s)) (now (t .entry)) (now (p .entry)) r ⌝ }
 {
@@ -153,7 +156,7 @@ fn boxes_ok(t: &[u64], p: &[u8], k: Caps, row: &[u8; PLACES]) -> bool
 }
 
 // The data entries and the links, with the pairs.
-fn datas_ok(t: &[u64], p: &[u8], k: Caps, row: &[u8; PLACES]) -> bool
+fn datas_ok(t: &[u64], p: &[u8], k: Caps, row: &[u8]) -> bool
     requires { ⌜ RoomWith k (λ s. Standing (s STATE) (now row)) (now t) (now p) ⌝ }
     ensures { λ r. ⌜ Tests k (λ s. both (dataRules k s) (pairRules k s)) (now (t .entry)) (now (p .entry)) r ⌝ }
 {
@@ -162,7 +165,7 @@ fn datas_ok(t: &[u64], p: &[u8], k: Caps, row: &[u8; PLACES]) -> bool
     datas & links
 }
 
-fn times_ok(t: &[u64], p: &[u8], k: Caps, row: &[u8; PLACES]) -> bool
+fn times_ok(t: &[u64], p: &[u8], k: Caps, row: &[u8]) -> bool
     requires { ⌜ RoomWith k (λ s. Standing (s STATE) (now row)) (now t) (now p) ⌝ }
     ensures { λ r. ⌜ Tests k (timeRules k) (now (t .entry)) (now (p .entry)) r ⌝ }
 {
@@ -172,7 +175,7 @@ fn times_ok(t: &[u64], p: &[u8], k: Caps, row: &[u8; PLACES]) -> bool
 }
 
 // The buses and who sits on them, and then the values, with the row that has them.
-fn buses_ok(t: &[u64], p: &[u8], k: Caps, row: &[u8; PLACES]) -> bool
+fn buses_ok(t: &[u64], p: &[u8], k: Caps, row: &[u8]) -> bool
     requires { ⌜ RoomWith k (λ s. Standing (s STATE) (now row) × Holds (headRule k s)) (now t) (now p) ⌝ }
     ensures { λ r. ⌜ Tests k (λ s. both (busRules s) (both (valueRules k s) (issuedRules k s))) (now (t .entry)) (now (p .entry)) r ⌝ }
 {
@@ -182,7 +185,7 @@ fn buses_ok(t: &[u64], p: &[u8], k: Caps, row: &[u8; PLACES]) -> bool
 }
 
 // All of them but the front, and the late ones which are tested with the entries that they belong to. The row says how the slots stand.
-fn body_ok(t: &[u64], p: &[u8], k: Caps, row: &[u8; PLACES]) -> bool
+fn body_ok(t: &[u64], p: &[u8], k: Caps, row: &[u8]) -> bool
     requires { ⌜ RoomWith k (λ s. Standing (s STATE) (now row) × Holds (headRule k s)) (now t) (now p) ⌝ }
     ensures { λ r. ⌜ Tests k (bodyRules k) (now (t .entry)) (now (p .entry)) r ⌝ }
 {
@@ -195,7 +198,7 @@ fn body_ok(t: &[u64], p: &[u8], k: Caps, row: &[u8; PLACES]) -> bool
 }
 
 // The front, and then the others.
-fn plain_ok(t: &[u64], p: &[u8], k: Caps, row: &[u8; PLACES]) -> bool
+fn plain_ok(t: &[u64], p: &[u8], k: Caps, row: &[u8]) -> bool
     requires { ⌜ RoomWith k (λ s. Standing (s STATE) (now row)) (now t) (now p) ⌝ }
     ensures { λ r. ⌜ Tests k (earlyRules k) (now (t .entry)) (now (p .entry)) r ⌝ }
 {
@@ -205,14 +208,34 @@ fn plain_ok(t: &[u64], p: &[u8], k: Caps, row: &[u8; PLACES]) -> bool
     false
 }
 
-// The same, by a row that is made here.
-fn early_ok(t: &[u64], p: &[u8], k: Caps) -> bool
+// The same, by a row that is made here: for a box of few actors, and for any.
+fn early_few(t: &[u64], p: &[u8], k: Caps) -> bool
+    requires { ⌜ Room k (now t) (now p) × (k .actors ≤ FEW-ACTORS) ⌝ }
+    ensures { λ r. ⌜ Tests k (earlyRules k) (now (t .entry)) (now (p .entry)) r ⌝ }
+{
+    let mut row = [0u8; FEW_PLACES];
+    stand(column(t, p, k, STATE), &mut row);
+    plain_ok(t, p, k, &row)
+}
+
+fn early_many(t: &[u64], p: &[u8], k: Caps) -> bool
     requires { ⌜ Room k (now t) (now p) ⌝ }
     ensures { λ r. ⌜ Tests k (earlyRules k) (now (t .entry)) (now (p .entry)) r ⌝ }
 {
     let mut row = [0u8; PLACES];
     stand(column(t, p, k, STATE), &mut row);
     plain_ok(t, p, k, &row)
+}
+
+// The same, by a row as long as the box asks for.
+fn early_ok(t: &[u64], p: &[u8], k: Caps) -> bool
+    requires { ⌜ Room k (now t) (now p) ⌝ }
+    ensures { λ r. ⌜ Tests k (earlyRules k) (now (t .entry)) (now (p .entry)) r ⌝ }
+{
+    if k.actors <= FEW_ACTORS {
+        return early_few(t, p, k);
+    }
+    early_many(t, p, k)
 }
 
 // ---- the rules that count over a whole column

@@ -10,7 +10,6 @@ ghost use Rattle.tables.specs.Columns.{STATE};
 ghost use Rattle.tables.specs.Sizes.{BIT-WORDS};
 ghost use Rattle.tables.specs.State.{RoomWith};
 use crate::lists::zero_from;
-use crate::standing::PLACES;
 use crate::standing::lives;
 use crate::standing::waits;
 use pools::bits::WORD_BITS;
@@ -24,7 +23,7 @@ use tables::columns::MAIL_OWNER;
 use tables::words::column;
 
 // The words of an entry in use: a live owner's, and a data entry's, which the owner does not await.
-fn keep_ok(t: &[u64], p: &[u8], k: Caps, row: &[u8; PLACES], owner: u64, entry: u64) -> bool
+fn keep_ok(t: &[u64], p: &[u8], k: Caps, row: &[u8], owner: u64, entry: u64) -> bool
     requires { ⌜ RoomWith k (λ s. Standing (s STATE) (now row)) (now t) (now p) ⌝ }
     ensures { λ r. ⌜ Tests k (λ s. keepRule k s owner entry) (now (t .entry)) (now (p .entry)) r ⌝ }
 {
@@ -41,7 +40,7 @@ fn kept_ok(
     t: &[u64],
     p: &[u8],
     k: Caps,
-    row: &[u8; PLACES],
+    row: &[u8],
     bits: &[u64],
     owners: &[u64],
     entries: &[u64],
@@ -64,7 +63,7 @@ fn kept_between(
     t: &[u64],
     p: &[u8],
     k: Caps,
-    row: &[u8; PLACES],
+    row: &[u8],
     bits: &[u64],
     owners: &[u64],
     entries: &[u64],
@@ -97,7 +96,7 @@ fn kept_run(
     t: &[u64],
     p: &[u8],
     k: Caps,
-    row: &[u8; PLACES],
+    row: &[u8],
     bits: &[u64],
     owners: &[u64],
     entries: &[u64],
@@ -121,7 +120,7 @@ fn kept_in(
     t: &[u64],
     p: &[u8],
     k: Caps,
-    row: &[u8; PLACES],
+    row: &[u8],
     bits: &[u64],
     owners: &[u64],
     entries: &[u64],
@@ -142,7 +141,7 @@ fn kept_in(
 }
 
 // The mailbox entries, with the filters of their owners.
-pub fn kept(t: &[u64], p: &[u8], k: Caps, row: &[u8; PLACES]) -> bool
+pub fn kept(t: &[u64], p: &[u8], k: Caps, row: &[u8]) -> bool
     requires { ⌜ RoomWith k (λ s. Standing (s STATE) (now row)) (now t) (now p) ⌝ }
     ensures { λ r. ⌜ Tests k (λ s. each (k .mails) (λ e. keptRule k s e)) (now (t .entry)) (now (p .entry)) r ⌝ }
 {

@@ -8,7 +8,7 @@ ghost use Rattle.pools.specs.Bits.{WORD-BITS, free};
 ghost use Rattle.pools.specs.Pool.{occurs};
 ghost use Rattle.rules.specs.Rule.{test, both, each, is, Holds};
 ghost use Rattle.rules.specs.Sound.{held, plainRules, onceRule, arrivedRule, heldRule};
-ghost use Rattle.sound.specs.Marks.{Added, AddedBoth, Below, Ended, OTHERS, Resting, fullRule};
+ghost use Rattle.sound.specs.Marks.{Added, AddedBoth, AllResting, Below, Ended, OTHERS, Resting, fullRule, inWord};
 ghost use Rattle.rules.specs.Host.{Tests};
 ghost use Rattle.tables.specs.Sizes.{BIT-WORDS, COLUMN-BITS};
 ghost use Rattle.tables.specs.State.{Of, RoomWith};
@@ -189,18 +189,47 @@ fn copied(bits: &[u64]) -> [u64; BIT_WORDS]
     [bits[0], bits[1], bits[2], bits[3]]
 }
 
-// The slots that are not runnable, of the first n.
-fn resting(states: &[u64], n: usize) -> u64
-    requires { ⌜ (n ≤ length (now states)) × (n ≤ WORD-BITS) ⌝ }
-    ensures { λ r. ⌜ Resting (now (states .entry)) n r ⌝ }
+// How many of n entries have their bit in word j.
+fn in_word(n: usize, j: usize) -> usize
+    requires { ⌜ j < BIT-WORDS ⌝ }
+    ensures { λ r. ⌜ r ≡ inWord n j ⌝ }
 {
+    let from = WORD_BITS * j;
+    if n <= from {
+        return 0;
+    }
+    if WORD_BITS <= n - from {
+        return WORD_BITS;
+    }
+    n - from
+}
+
+// The slots that are not runnable, of the first n those that have their bit in word j.
+fn resting(states: &[u64], n: usize, j: usize) -> u64
+    requires { ⌜ (n ≤ length (now states)) × (j < BIT-WORDS) ⌝ }
+    ensures { λ r. ⌜ Resting (now (states .entry)) n j r ⌝ }
+{
+    let from = WORD_BITS * j;
+    let few = in_word(n, j);
     let mut word: u64 = 0;
     let mut i = 0;
-    while i < n {
-        word = word | (((!(states[i] == RUNNABLE)) as u64) << i);
+    while i < few {
+        word = word | (((!(states[from + i] == RUNNABLE)) as u64) << i);
         i += 1;
     }
     word
+}
+
+// All of the first n that are not.
+fn all_resting(states: &[u64], n: usize) -> [u64; BIT_WORDS]
+    requires { ⌜ (n ≤ length (now states)) × (n ≤ COLUMN-BITS) ⌝ }
+    ensures { λ r. ⌜ AllResting (now (states .entry)) n r ⌝ }
+{
+    let a = resting(states, n, 0);
+    let b = resting(states, n, 1);
+    let c = resting(states, n, 2);
+    let d = resting(states, n, 3);
+    [a, b, c, d]
 }
 
 // ---- what is marked in the end
@@ -245,7 +274,7 @@ pub fn once_ok(t: &[u64], p: &[u8], k: Caps) -> bool
     requires { ⌜ RoomWith k (λ s. Holds (plainRules k s)) (now t) (now p) ⌝ }
     ensures { λ r. ⌜ Tests k (λ s. each (k .actors) (λ a. onceRule s a)) (now (t .entry)) (now (p .entry)) r ⌝ }
 {
-    let mut seen = [resting(column(t, p, k, STATE), k.actors), 0, 0, 0];
+    let mut seen = all_resting(column(t, p, k, STATE), k.actors);
     let n = get(t, p, k, QUEUED, 0) as usize;
     let once = marks(column(t, p, k, QUEUE), n, &mut seen);
     let all = all_marked(&seen, k.actors);

@@ -15,6 +15,8 @@ use crate::zeros::rest_zero;
 use pools::bits::is_free;
 use reading::headers::class_in;
 use records::bytes::load32;
+use records::exit::EXIT_BYTES;
+use records::tick::TICK_BYTES;
 use tables::Caps;
 use tables::columns::AGE;
 use tables::columns::DATA_FREE;
@@ -38,7 +40,8 @@ fn header_ok(header: u32, len: u64) -> bool
     if (header as u64) < ANY_TAG {
         return len <= (PAYLOAD_MOST as u64);
     }
-    ((header == 0x3800_0000) & (len == 8)) | ((header == 0x4800_0000) & (len == 14))
+    ((header == 0x3800_0000) & (len == (TICK_BYTES as u64)))
+        | ((header == 0x4800_0000) & (len == (EXIT_BYTES as u64)))
 }
 
 // Is the sender an actor that its slot has had, by the slots' ages, or a timer?

@@ -10,12 +10,12 @@ use Rattle.tables.specs.Sizes.{COLUMN-BITS}
 pub slots-below : (MOST-ACTORS ≤ ACTOR-FACTOR) × (MOST-TIMERS ≤ TIMER-FACTOR) × (MOST-MONITORS ≤ MONITOR-FACTOR)
 slots-below = (lit≤ tt, lit≤ tt, lit≤ tt)
 
--- every id fits the four bytes that a record has for it
-pub ids-fit : ((OLDEST + 1) * ACTOR-FACTOR ≤ 2 ^ 32) × ((OLDEST + 1) * TIMER-FACTOR ≤ 2 ^ 32) × ((OLDEST + 1) * MONITOR-FACTOR ≤ 2 ^ 32)
+-- every id fits the eight bytes that a record has for it
+pub ids-fit : ((OLDEST + 1) * ACTOR-FACTOR ≤ 2 ^ 64) × ((OLDEST + 1) * TIMER-FACTOR ≤ 2 ^ 64) × ((OLDEST + 1) * MONITOR-FACTOR ≤ 2 ^ 64)
 ids-fit = (lit≤ tt, lit≤ tt, lit≤ tt)
 
--- "Slot 0's last id is 2,112,000,000"
-pub last-id : idOf ACTOR-FACTOR OLDEST 0 ≡ 2112000000
+-- slot 0's last actor id
+pub last-id : idOf ACTOR-FACTOR OLDEST 0 ≡ 2 ^ 48
 last-id = refl
 
 -- every message entry has its free bit

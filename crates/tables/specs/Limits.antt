@@ -3,7 +3,7 @@ use Prim.Native.Nat.{ℕ, _+_, _-_, _^_}
 
 -- ---- "Range at start": the most that each pool can have
 abbrev pub MOST-ACTORS : ℕ
-MOST-ACTORS = 64
+MOST-ACTORS = 256
 
 abbrev pub MOST-MAILS : ℕ
 MOST-MAILS = 256
@@ -37,9 +37,9 @@ MOST-READS = 32
 abbrev pub LONGEST-AGE : ℕ
 LONGEST-AGE = 2 ^ 31 - 1
 
--- ---- "An actor or timer id is age × 64 + slot, a monitor id age × 128 + slot"
+-- ---- "an actor id is age × 256 + slot"; "A .. timer id is age × 64 + slot, a monitor id age × 128 + slot"
 abbrev pub ACTOR-FACTOR : ℕ
-ACTOR-FACTOR = 64
+ACTOR-FACTOR = 256
 
 abbrev pub TIMER-FACTOR : ℕ
 TIMER-FACTOR = 64
@@ -47,9 +47,9 @@ TIMER-FACTOR = 64
 abbrev pub MONITOR-FACTOR : ℕ
 MONITOR-FACTOR = 128
 
--- "A slot's age is .. at most 33,000,000"
+-- "Ages go to 2^40"
 abbrev pub OLDEST : ℕ
-OLDEST = 33000000
+OLDEST = 2 ^ 40
 
 -- ---- "data entries, 256 bytes each": "a four-byte little-endian header and the payload"; "Payloads are 0 to 252 bytes"
 abbrev pub ENTRY-BYTES : ℕ
@@ -61,9 +61,9 @@ HEADER-BYTES = 4
 abbrev pub PAYLOAD-MOST : ℕ
 PAYLOAD-MOST = 252
 
--- ---- "with 4,294,967,295, 15 and 134,217,727 for any"
+-- ---- "Any-sender becomes 2^64 - 1"; ".. 15 and 134,217,727 for any"
 abbrev pub ANY-SENDER : ℕ
-ANY-SENDER = 4294967295
+ANY-SENDER = 2 ^ 64 - 1
 
 abbrev pub ANY-CLASS : ℕ
 ANY-CLASS = 15
@@ -109,9 +109,9 @@ ALWAYS = 2 ^ 64 - 1
 abbrev pub LAST-REASON : ℕ
 LAST-REASON = 65535
 
--- ---- "the number of words needed"; "the table may have 6,144 words"
+-- ---- "the number of words needed"; "The table may have up to 8,192 words"
 abbrev pub WORDS-MOST : ℕ
-WORDS-MOST = 6144
+WORDS-MOST = 8192
 
 -- a slot, an entry or a count below this is small enough that no sum of a few of them overflows
 abbrev pub SAFE : ℕ

@@ -1,7 +1,7 @@
 // The numbers of document 01 that stand for a limit, as specs/Limits.antt names them: two that are equal today are two names.
 
 // The most that each pool can have.
-pub const MOST_ACTORS: usize = 64;
+pub const MOST_ACTORS: usize = 256;
 
 pub const MOST_MAILS: usize = 256;
 
@@ -25,14 +25,14 @@ pub const MOST_READS: usize = 32;
 pub const LONGEST_AGE: u64 = 2_147_483_647;
 
 // An id is age × factor + slot.
-pub const ACTOR_FACTOR: u64 = 64;
+pub const ACTOR_FACTOR: u64 = 256;
 
 pub const TIMER_FACTOR: u64 = 64;
 
 pub const MONITOR_FACTOR: u64 = 128;
 
 // The age of a slot's last use.
-pub const OLDEST: u64 = 33_000_000;
+pub const OLDEST: u64 = 0x100_0000_0000;
 
 // A data entry: a header and the payload.
 pub const ENTRY_BYTES: usize = 256;
@@ -42,7 +42,7 @@ pub const HEADER_BYTES: usize = 4;
 pub const PAYLOAD_MOST: usize = 252;
 
 // A filter that takes any sender, class, tag.
-pub const ANY_SENDER: u64 = 4_294_967_295;
+pub const ANY_SENDER: u64 = 0xffff_ffff_ffff_ffff;
 
 pub const ANY_CLASS: u64 = 15;
 
@@ -70,3 +70,6 @@ pub const ALWAYS: u64 = 0xffff_ffff_ffff_ffff;
 
 // The last exit reason.
 pub const LAST_REASON: u64 = 65_535;
+
+// The most words that a table needs.
+pub const WORDS_MOST: usize = 8_192;

@@ -8,7 +8,7 @@ use tables::limits::ACTOR_FACTOR;
 const KEPT: u64 = 256;
 
 // Slots, times ends.
-pub const PLACES: usize = 16_384;
+pub const PLACES: usize = 65_536;
 
 // When a track ended: it has not, at a record, too long ago to say.
 pub enum End {
@@ -25,7 +25,7 @@ fn place(id: u64) -> usize {
 }
 
 // A track ended at record n.
-pub fn remember(ends: &mut [u64; 16384], id: u64, n: u64) {
+pub fn remember(ends: &mut [u64; PLACES], id: u64, n: u64) {
     let i = place(id);
     if i < PLACES {
         ends[i] = n;
@@ -33,8 +33,8 @@ pub fn remember(ends: &mut [u64; 16384], id: u64, n: u64) {
 }
 
 // A new start: what was before is forgotten.
-pub fn forget(ends: &mut [u64; 16384]) {
-    *ends = [0u64; 16384];
+pub fn forget(ends: &mut [u64; PLACES]) {
+    *ends = [0u64; PLACES];
 }
 
 // The age of the slot's track that ended last.

@@ -127,7 +127,7 @@ fn holder(t: &[u64], pool: Pool, slot: u64) {
 
 // What each track holds of a pool.
 fn holders(t: &[u64], pool: Pool) {
-    for slot in 0..64 {
+    for slot in 0..256 {
         if lives(t, slot) {
             holder(t, pool, slot);
         }

@@ -3,6 +3,7 @@ ghost use Prim.Native.Nat.{_≤_};
 ghost use lib.ListN.{length};
 use crate::places::bytes_taken;
 use crate::places::words_taken;
+use tables::limits::WORDS_MOST;
 
 fn copy_words(from: &[u64], to: &mut [u64], n: usize)
     requires { ⌜ (n ≤ length (now from)) × (n ≤ length (now to)) ⌝ }
@@ -25,9 +26,14 @@ fn copy_bytes(from: &[u8], to: &mut [u8], n: usize)
 }
 
 // The runtime in two buffers, copied into two others.
-pub fn copy(t: &[u64; 6144], p: &[u8; 65536], to: &mut [u64; 6144], area: &mut [u8; 65536]) {
+pub fn copy(
+    t: &[u64; WORDS_MOST],
+    p: &[u8; 65536],
+    to: &mut [u64; WORDS_MOST],
+    area: &mut [u8; 65536],
+) {
     let words = words_taken(t);
-    if words <= 6144 {
+    if words <= WORDS_MOST {
         copy_words(t, to, words);
     }
     let bytes = bytes_taken(t);

@@ -30,7 +30,7 @@ fn tell_track(t: &[u64], p: &[u8], slot: u64) {
 // Each track that lives. Is there any?
 fn each_track(t: &[u64], p: &[u8]) -> bool {
     let mut any = false;
-    for slot in 0..64 {
+    for slot in 0..256 {
         if lives(t, slot) {
             tell_track(t, p, slot);
             any = true;

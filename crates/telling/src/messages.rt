@@ -32,14 +32,14 @@ fn sent(t: &[u64], p: &[u8], e: u64) {
 fn tick(t: &[u64], p: &[u8], e: u64) {
     let r = fg_read_tick(payload(p, e, at(t, LENGTH, e)));
     say(b"tick of timer ");
-    number(r.id as u64);
+    number(r.id);
 }
 
 // A notice: who ended, why, and by what it was told.
 fn notice(t: &[u64], p: &[u8], e: u64) {
     let r = fg_read_exit(payload(p, e, at(t, LENGTH, e)));
     say(b"notice that ");
-    number(r.actor as u64);
+    number(r.actor);
     say(b" ended, ");
     reason(r.reason as u64);
     if r.monitor == 0 {
@@ -47,7 +47,7 @@ fn notice(t: &[u64], p: &[u8], e: u64) {
         return;
     }
     say(b", by monitor ");
-    number(r.monitor as u64);
+    number(r.monitor);
 }
 
 // The message in data entry e.

@@ -35,9 +35,9 @@ START = STARTS 1 1 0
 abbrev REFUSED : List ℕ
 REFUSED = STARTS 1 0 1
 
--- kind 17, a spawn at level 1: 0, and this id
-abbrev SPAWN : ℕ → List ℕ
-SPAWN id = 26 ∷ 0 ∷ 17 ∷ 0 ∷ (one 1 ++ (one 0 ++ one id))
+-- kind 17, a spawn at level 1: 0, and the id of these two bytes
+abbrev SPAWN : ℕ → ℕ → List ℕ
+SPAWN low high = 26 ∷ 0 ∷ 17 ∷ 0 ∷ (one 1 ++ (one 0 ++ two low high))
 
 -- kind 19, a yield while nobody runs: 4
 abbrev YIELD : List ℕ
@@ -99,18 +99,18 @@ pub begins : verdict START ≡ ok 1
 unfolding judge rightOne formed callOf rowOf encode bytes le
 begins = refl
 
--- and the first spawn, whose id is 64
-pub spawns : verdict (START ++ SPAWN 64) ≡ ok 2
+-- and the first spawn, whose id is 256
+pub spawns : verdict (START ++ SPAWN 0 1) ≡ ok 2
 unfolding judge rightOne formed callOf rowOf encode bytes le newly fresh freed stated zeroed with-col poke ruled lowest ready push
 spawns = refl
 
--- an answer that differs
-pub not-65 : verdict (START ++ SPAWN 65) ≡ bad 1
+-- an answer that differs: in a trace of the earlier edition it is 64
+pub not-64 : verdict (START ++ SPAWN 64 0) ≡ bad 1
 unfolding judge rightOne formed callOf rowOf encode bytes le newly fresh freed stated zeroed with-col poke ruled lowest ready push
-not-65 = refl
+not-64 = refl
 
 -- the last seven bytes are not there
-pub spawn-cut : verdict (START ++ (26 ∷ 0 ∷ 17 ∷ 0 ∷ (one 1 ++ (one 0 ++ (64 ∷ []))))) ≡ cut 1
+pub spawn-cut : verdict (START ++ (26 ∷ 0 ∷ 17 ∷ 0 ∷ (one 1 ++ (one 0 ++ (0 ∷ []))))) ≡ cut 1
 unfolding judge rightOne formed callOf rowOf encode bytes le
 spawn-cut = refl
 

@@ -1,31 +1,13 @@
-// Numbers of eight bytes in a slice of bytes, the low byte first.
+// Numbers of eight bytes one after the other in a slice of bytes, and signed ones.
 ghost use mathlib.Core.Path.{_≡_};
 ghost use Prim.Native.Nat.{_+_, _*_, _≤_};
 ghost use lib.ListN.{drop, length};
 ghost use lib.Seq.{sets};
-ghost use Rattle.records.specs.Bytes.{le, field};
 ghost use Rattle.trace.specs.Codec.{words};
 ghost use Rattle.trace.specs.Contracts.{leads};
 ghost use Rattle.trace.specs.Kinds.{signed, unsigned};
-use records::bytes::load32;
-use records::bytes::store32;
-
-pub fn store64(s: &mut [u8], at: usize, x: u64)
-    requires { ⌜ at + 8 ≤ length (now s) ⌝ }
-    ensures { λ _. ⌜ now (s .exit) ≡ sets (now (s .entry)) at (le 8 x) ⌝ }
-{
-    store32(s, at, (x & 0xffff_ffff) as u32);
-    store32(s, at + 4, (x >> 32) as u32);
-}
-
-pub fn load64(s: &[u8], at: usize) -> u64
-    requires { ⌜ at + 8 ≤ length (now s) ⌝ }
-    ensures { λ r. ⌜ r ≡ field 8 at (now (s .entry)) ⌝ }
-{
-    let low = load32(s, at) as u64;
-    let high = load32(s, at + 4) as u64;
-    low + 4_294_967_296 * high
-}
+use records::bytes::load64;
+use records::bytes::store64;
 
 // The numbers one after the other, from a place on.
 pub fn put_words(s: &mut [u8], at: usize, ns: &[u64])

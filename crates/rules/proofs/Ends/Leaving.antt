@@ -210,9 +210,9 @@ vacated-keeps k s u a g bare v =
     (λ q h. rw (else b q, zero-else (v .level) b q, zero-else (v .reason) b q, c HAND refl)
     (rw (zero-else (w .0) b q, zero-else (w .1) b q, zero-else (w .2) b q, zero-else (w .3) b q) (g .unusedWords b h))) h) also
     Part.waits by (λ b h. each-set (λ b. b < k .actors → Holds (waitRule u b)) a b
-    (λ h. rw (zero-at (w .0), zero-at (w .1), zero-at (w .2), zero-at (w .3))
-    ((omega arith, omega arith), ((omega arith, λ e. absurd (omega arith)), λ e. absurd (e refl))))
-    (λ q h. rw (zero-else (w .0) b q, zero-else (w .1) b q, zero-else (w .2) b q, zero-else (w .3) b q, c CLOCK refl) (g .waits b h)) h) also
+    (λ h. rw (zero-at (w .1), zero-at (w .2), zero-at (w .3))
+    (omega arith, ((omega arith, λ e. absurd (omega arith)), λ e. absurd (e refl))))
+    (λ q h. rw (zero-else (w .1) b q, zero-else (w .2) b q, zero-else (w .3) b q, c CLOCK refl) (g .waits b h)) h) also
     Part.runs by (λ b h. each-set (λ b. b < k .actors → boolByte (eqb (at u STATE b) RUNS) ≡ boolByte (eqb (runner u) (suc b))) a b
     (λ h. rw (zero, v .runs) (split (eqb (runner s) (suc a)) (λ q. rw (q, ne-eqb 0 (suc a) (λ e. omega arith))) (λ q. rw (q, q))))
     (λ q h. rw (else b q, v .runs) (split (eqb (runner s) (suc a))

@@ -3,7 +3,7 @@ use Prim.Native.Nat.{ℕ, zero, suc, _+_, _-_, _*_, _^_, _≤_, _<_}
 use native.Mathlib.Decide.{decLt}
 use native.Mathlib.Omega.{arith}
 use mathlib.Core.Path.{_≡_, refl, sym, ap, subst, _∙_, fun-ext}
-use mathlib.Core.Bool.{true, false, not, _&&_, _||_}
+use mathlib.Core.Bool.{true, false, not, _||_}
 use mathlib.Core.List.{List, [], _∷_, _++_, map}
 use mir.Val.{boolByte}
 use lib.ListN.{length, getD, set, take, replicate, length-map, length-replicate, getD-replicate, List·getD-eq-default}
@@ -29,7 +29,7 @@ use Rattle.ledger.specs.Call.Op.{notify, receive}
 use Rattle.tables.specs.declared.Caps.{Caps}
 use Rattle.tables.specs.Columns.{AGE, ARRIVAL, ARRIVED, CLOCK, DATA-FREE, DEADLINE, HAND, LENGTH, MAIL-DATA, MAIL-FREE, MAIL-OWNER, PAYLOAD, QUEUE, QUEUED, REASON, RUNNING, SENDER, STATE, VALUE-BUS, WANT-CLASS, WANT-SENDER, WANT-TAG}
 use Rattle.tables.specs.Sizes.{COLUMN-BITS}
-use Rattle.tables.specs.Limits.{ACTOR-FACTOR, ANY-CLASS, ANY-SENDER, ANY-TAG, CLOCK-END, DEADLINE-END, ENTRY-BYTES, LONGEST-WAIT, PAYLOAD-MOST}
+use Rattle.tables.specs.Limits.{ACTOR-FACTOR, ANY-CLASS, ANY-TAG, CLOCK-END, DEADLINE-END, ENTRY-BYTES, LONGEST-WAIT, PAYLOAD-MOST}
 use Rattle.tables.specs.State.{Sized, State, at, head, poke, with-col}
 use Rattle.tables.specs.Action.{push, pull, takeBit, freeBit, write, blank}
 use Rattle.tables.proofs.LoopLaws.{sets-apart, sets-same}
@@ -488,18 +488,12 @@ letGo-empty k s a g l =
 
 -- ---- waiting
 -- what a legal filter is
-pub legal-of : (sender class tag : ℕ) → legal sender class tag ≡ true → (sender ≤ ANY-SENDER) × (tag ≤ ANY-TAG) × (class ≤ ANY-CLASS) × (4 < class → class ≡ ANY-CLASS)
-legal-of sender class tag e =
-    let b = and-right (leb sender ANY-SENDER) ((leb class 4 || eqb class ANY-CLASS) && leb tag ANY-TAG) e in
-    let c = and-left (leb class 4 || eqb class ANY-CLASS) (leb tag ANY-TAG) b in
+pub legal-of : (class tag : ℕ) → legal class tag ≡ true → (tag ≤ ANY-TAG) × (class ≤ ANY-CLASS) × (4 < class → class ≡ ANY-CLASS)
+legal-of class tag e =
+    let c = and-left (leb class 4 || eqb class ANY-CLASS) (leb tag ANY-TAG) e in
     let either : (class ≤ ANY-CLASS) × (4 < class → class ≡ ANY-CLASS) =
-    split (leb class 4) (λ q. let h = leb-true class 4 q in (omega arith, λ m. absurd (omega arith))) (λ q. let h = eqb-true class ANY-CLASS (rw q at c) in (omega arith, λ m. h)) in (
-      leb-true sender ANY-SENDER (and-left (leb sender ANY-SENDER) ((leb class 4 || eqb class ANY-CLASS) && leb tag ANY-TAG) e),
-      leb-true tag ANY-TAG
-          (and-right (leb class 4 || eqb class ANY-CLASS) (leb tag ANY-TAG) b),
-      either .0,
-      either .1,
-    )
+    split (leb class 4) (λ q. let h = leb-true class 4 q in (omega arith, λ m. absurd (omega arith))) (λ q. let h = eqb-true class ANY-CLASS (rw q at c) in (omega arith, λ m. h)) in
+    (leb-true tag ANY-TAG (and-right (leb class 4 || eqb class ANY-CLASS) (leb tag ANY-TAG) e), either .0, either .1)
 
 -- a wait that is taken is no longer than a day
 pub wait-fits : (n : ℕ) → badWait (pos n) ≡ false → n ≤ LONGEST-WAIT
@@ -514,7 +508,7 @@ deadline-fits clock (pos n) h b o z =
     (omega arith, omega arith)
 deadline-fits clock (negsuc n) h b o z = absurd (z refl)
 
-module _ (k : Caps) (s : State) (g : Good k s) (a : ℕ) (runs : runner s ≡ suc a) (sender class tag deadline : ℕ) (right : legal sender class tag ≡ true)
+module _ (k : Caps) (s : State) (g : Good k s) (a : ℕ) (runs : runner s ≡ suc a) (sender class tag deadline : ℕ) (right : legal class tag ≡ true)
     (later : (deadline ≡ 0 → ⊥) → (head s CLOCK < deadline) × (deadline ≤ DEADLINE-END))
     (unmet : (i : ℕ) → i < head s ARRIVED → matchAt s a sender class tag i ≡ false) where
   -- THE THEOREM of an actor that waits for what its mailbox does not hold
@@ -528,7 +522,7 @@ module _ (k : Caps) (s : State) (g : Good k s) (a : ℕ) (runs : runner s ≡ su
       let e₂ = read-back g WANT-CLASS a class tt slot-runs in
       let e₃ = read-back g WANT-TAG a tag tt slot-runs in
       let z : getD (set (s RUNNING) 0 0) 0 0 ≡ 0 = set-zero (s RUNNING) 0 in
-      let p = legal-of sender class tag right in
+      let p = legal-of class tag right in
       patch-living k g (wrote-await (wrote-none s) a sender class tag deadline) (
       Part.head by (rw z ((clock-fits g, omega arith), g .head .1)) also
       Part.actors by (λ b h. each-set (λ b. Holds (actorRule k (await s a sender class tag deadline) b)) a b
@@ -538,8 +532,8 @@ module _ (k : Caps) (s : State) (g : Good k s) (a : ℕ) (runs : runner s ≡ su
       (rw is (λ e. absurd (omega arith), (λ e. g .unusedWords a slot-runs .1 .0 (λ r. omega (arith, state-runs)), λ e. absurd (e refl))))
       (λ q. rw (other (s STATE) a WAITS b q, other (s WANT-SENDER) a sender b q, other (s WANT-CLASS) a class b q, other (s WANT-TAG) a tag b q, other (s DEADLINE) a deadline b q) (g .unusedWords b h))) also
       Part.waits by (λ b h. each-set (λ b. Holds (waitRule (await s a sender class tag deadline) b)) a b
-      (rw (e₁, e₂, e₃, read-back g DEADLINE a deadline tt slot-runs) ((p .0, p .1), ((p .2, p .3), later)))
-      (λ q. rw (other (s WANT-SENDER) a sender b q, other (s WANT-CLASS) a class b q, other (s WANT-TAG) a tag b q, other (s DEADLINE) a deadline b q) (g .waits b h))) also
+      (rw (e₂, e₃, read-back g DEADLINE a deadline tt slot-runs) (p .0, ((p .1, p .2), later)))
+      (λ q. rw (other (s WANT-CLASS) a class b q, other (s WANT-TAG) a tag b q, other (s DEADLINE) a deadline b q) (g .waits b h))) also
       Part.runs by (λ b h. rw z (each-set (λ b. b < k .actors → boolByte (eqb (getD (set (s STATE) a WAITS) b 0) RUNS) ≡ boolByte (eqb 0 (suc b))) a b
       (λ h. rw (is, ne-eqb 0 (suc a) (λ e. omega arith)))
       (λ q h. rw (other (s STATE) a WAITS b q, ne-eqb 0 (suc b) (λ e. omega arith)) (rw (ne-eqb (runner s) (suc b) (λ e. eqb-false b a q (omega (arith, runs)))) at (g .runs b h))) h)) also
@@ -557,7 +551,7 @@ module _ (k : Caps) (s : State) (g : Good k s) (a : ℕ) (runs : runner s ≡ su
 
 -- ---- receive
 -- once the hand of the running actor is empty
-pub receiveBare-keeps : (sender class tag : ℕ) (wait : ℤ) (k : Caps) (s : State) (a : ℕ) → Good k s → runner s ≡ suc a → at s HAND a ≡ 0 → legal sender class tag ≡ true → badWait wait ≡ false →
+pub receiveBare-keeps : (sender class tag : ℕ) (wait : ℤ) (k : Caps) (s : State) (a : ℕ) → Good k s → runner s ≡ suc a → at s HAND a ≡ 0 → legal class tag ≡ true → badWait wait ≡ false →
     Good k (receiveBare sender class tag wait a s .state)
 unfolding receiveBare
 receiveBare-keeps sender class tag wait k s a g runs empty right fair =
@@ -574,9 +568,9 @@ receive-keeps sender class tag wait k s g p =
     let a = runner s - 1 in
     let q = eqb-false (runner s) 0 (p .0) in
     let l : a < k .actors = omega (arith, runner-fits g) in
-    let n = neither (not (legal sender class tag)) (badWait wait) (second-passed p) in
+    let n = neither (not (legal class tag)) (badWait wait) (second-passed p) in
     receiveBare-keeps sender class tag wait k (letGo s a) a (letGo-keeps k s a g l)
-    (ap (λ (l : List ℕ). getD l 0 0) (wrote-letGo s a .cols RUNNING refl) ∙ omega arith) (letGo-empty k s a g l) (not-false (legal sender class tag) (n .0)) (n .1)
+    (ap (λ (l : List ℕ). getD l 0 0) (wrote-letGo s a .cols RUNNING refl) ∙ omega arith) (letGo-empty k s a g l) (not-false (legal class tag) (n .0)) (n .1)
 
 -- ---- notify
 -- the id of a live actor is a legal sender

@@ -95,9 +95,9 @@ wake-keeps k s a reason g l u r =
     (λ e. absurd (omega arith), (λ e. absurd (e refl), λ e. ((refl, refl), (refl, refl)))))
     (λ q. rw (other (s STATE) a RUNNABLE b q, other (s REASON) a reason b q, other (s WANT-SENDER) a 0 b q, other (s WANT-CLASS) a 0 b q, other (s WANT-TAG) a 0 b q, other (s DEADLINE) a 0 b q) (g .unusedWords b h))) also
     Part.waits by (λ b h. each-set (λ b. Holds (waitRule (wake s a reason) b)) a b
-    (rw (set-zero (s WANT-SENDER) a, set-zero (s WANT-CLASS) a, set-zero (s WANT-TAG) a, set-zero (s DEADLINE) a)
-    ((omega arith, omega arith), ((omega arith, λ e. absurd (omega arith)), λ e. absurd (e refl))))
-    (λ q. rw (other (s WANT-SENDER) a 0 b q, other (s WANT-CLASS) a 0 b q, other (s WANT-TAG) a 0 b q, other (s DEADLINE) a 0 b q) (g .waits b h))) also
+    (rw (set-zero (s WANT-CLASS) a, set-zero (s WANT-TAG) a, set-zero (s DEADLINE) a)
+    (omega arith, ((omega arith, λ e. absurd (omega arith)), λ e. absurd (e refl))))
+    (λ q. rw (other (s WANT-CLASS) a 0 b q, other (s WANT-TAG) a 0 b q, other (s DEADLINE) a 0 b q) (g .waits b h))) also
     Part.runs by (λ b h. each-set (λ b. Holds (runRule (wake s a reason) b)) a b
     (rw is (rw u at (g .runs a l)))
     (λ q. rw (other (s STATE) a RUNNABLE b q) (g .runs b h))) also

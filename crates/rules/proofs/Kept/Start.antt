@@ -143,7 +143,7 @@ module _ (k : Caps) (s : State) (r : InRange k) where
     dataBits = λ e l m. rw (four-free (k .datas) e (r .fewDatas), le-ltb e (k .datas) m);
     actors = λ a l. simp zero-at ((omega arith, (omega arith, omega arith)), ((omega arith, λ e. refl), omega arith));
     unusedWords = λ a l. simp zero-at (λ e. (refl, refl), (λ d. refl, λ d. ((refl, refl), (refl, refl))));
-    waits = λ a l. simp zero-at ((omega arith, omega arith), ((omega arith, λ e. absurd (omega arith)), λ d. absurd (d refl)));
+    waits = λ a l. simp zero-at (omega arith, ((omega arith, λ e. absurd (omega arith)), λ d. absurd (d refl)));
     runs = λ a l. simp zero-at (rw (ne-eqb 0 (suc a) (λ e. omega arith)));
     queue = λ i l. (λ h. absurd (omega arith), λ h. zero-at (k .actors) i);
     once = λ a l. rw (zero-at (k .actors) a);

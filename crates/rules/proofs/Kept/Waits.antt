@@ -166,7 +166,7 @@ receive-waits sender class tag wait k s p = daily-now (beside-receive sender cla
     let u = letGo s a in
     let g = before-beside w refl h in
     let now : head u CLOCK ≡ head s CLOCK = rw (w .cols CLOCK refl) in
-    let l = deadline-soon (head u CLOCK) wait (neither (not (legal sender class tag)) (badWait wait) (second-passed p) .1) in
+    let l = deadline-soon (head u CLOCK) wait (neither (not (legal class tag)) (badWait wait) (second-passed p) .1) in
     split (ltb (firstMatch u a sender class tag) (head u ARRIVED)) (λ q. rw q (before-beside (beside-poke (beside-delist u _) HAND a _) refl g))
     (λ q. split (notAtAll wait) (λ z. rw (q, z) g) (λ z. rw (q, z) (before-await u a sender class tag _ (omega (arith, now, l)) g))))
 

@@ -22,8 +22,8 @@ read x =
 -- its numbers fit the fields of a record
 abbrev pub Fits : Says → Type 0
 Fits (wrote tag payload) = Unit
-Fits (ticked timer) = timer < 2 ^ 32
-Fits (ended actor reason monitor) = (actor < 2 ^ 32) × (reason < 2 ^ 16) × (monitor < 2 ^ 32)
+Fits (ticked timer) = timer < 2 ^ 64
+Fits (ended actor reason monitor) = (actor < 2 ^ 64) × (reason < 2 ^ 16) × (monitor < 2 ^ 64)
 
 -- what is said reads back
 said-back : (to sender : ℕ) (s : Says) → Fits s → read (letter (record { to = to; sender = sender; says = s })) ≡ s

@@ -29,7 +29,7 @@ use Rattle.rules.specs.Calls.{Out, Told, cutLink, cutLinks, cutMonitor, 
 use Rattle.rules.specs.Host.{fresh, freed, stated, zeroed}
 use Rattle.rules.specs.Run.{afterwards, lines, play, step}
 use Rattle.rules.specs.Story.{capsFrom}
-use Rattle.rules.specs.Examples.{BENCH, BENCH-ANSWERS, CRASH, MOST, receiveAny}
+use Rattle.rules.specs.Examples.{BENCH, BENCH-ANSWERS, CRASH, MOST, NOTICE, receiveAny}
 use Rattle.rules.proofs.Kept.Exit.{cutLink-no}
 use Rattle.rules.proofs.Kept.Start.{zero-at}
 
@@ -62,16 +62,16 @@ abbrev lastly : List Step
 lastly = drop 2 steps
 
 module _ (s : State) where
-  -- once 64 is linked to 65
+  -- once 256 is linked to 257
   unfoldable tied : State
-  tied = afterwards k (fresh k s) (spawn 1 ∷ spawn 1 ∷ next ∷ link 65 ∷ [])
+  tied = afterwards k (fresh k s) (spawn 1 ∷ spawn 1 ∷ next ∷ link 257 ∷ [])
 
-  -- once 65 has been told of the exit of 64
+  -- once 257 has been told of the exit of 256
   unfoldable noted : State
-  noted = post k (tie tied 0 0 0) 1 64 (packed 4 1 0) (exitBytes 64 CRASH 0)
+  noted = post k (tie tied 0 0 0) 1 256 (packed 4 1 0) (exitBytes 256 CRASH 0)
 
   -- the links are cut, of which there is one, with slot 1
-  two-cut : cutLinks k 0 64 CRASH 2 (told 0 0 (through firstly k 0 64 CRASH tied .state)) ≡ told 1 0 noted
+  two-cut : cutLinks k 0 256 CRASH 2 (told 0 0 (through firstly k 0 256 CRASH tied .state)) ≡ told 1 0 noted
   unfolding noted tied afterwards ruled lowest poke with-col fresh freed stated zeroed ready push pull run firstHead cutLinks cutLink tell tie dropAll letGo joins
   two-cut = refl
 
@@ -81,31 +81,31 @@ module _ (s : State) where
   none-left = refl
 
   -- nobody watched it, and of its own monitors and timers it has none
-  no-more : through lastly k 0 64 CRASH noted ≡ told 0 0 noted
+  no-more : through lastly k 0 256 CRASH noted ≡ told 0 0 noted
   unfolding noted tied afterwards ruled lowest poke with-col fresh freed stated zeroed ready push pull run firstHead post stir enlist fill takeBit write tie joins cutMonitors cutMonitor unwait fits wants endOwn leaveBuses
   no-more = refl
 
   -- so its end tells one, loses no notice, and leaves nothing else to do but its slot
-  told-once : through steps k 0 64 CRASH tied ≡ told 1 0 noted
+  told-once : through steps k 0 256 CRASH tied ≡ told 1 0 noted
   told-once =
-      ap (λ (t : Told). let u = through lastly k 0 64 CRASH (t .state) in told (0 + (t .sent + u .sent)) (0 + (t .lost + u .lost)) (u .state))
-      (all-cut k 0 64 CRASH MOST-LINKS 62 (told 0 0 (through firstly k 0 64 CRASH tied .state)) (told 1 0 noted) none-left two-cut)
+      ap (λ (t : Told). let u = through lastly k 0 256 CRASH (t .state) in told (0 + (t .sent + u .sent)) (0 + (t .lost + u .lost)) (u .state))
+      (all-cut k 0 256 CRASH MOST-LINKS 254 (told 0 0 (through firstly k 0 256 CRASH tied .state)) (told 1 0 noted) none-left two-cut)
       ∙ ap (λ (u : Told). told (0 + (1 + u .sent)) (0 + (0 + u .lost)) (u .state)) no-more
 
-  -- an exit is the end of the actor in slot 0, whose id is 64
-  asked : step (exit CRASH) k tied ≡ (let t = through steps k 0 64 CRASH tied in out (ended 0 (t .sent) (t .lost)) (vacate (t .state) 0))
+  -- an exit is the end of the actor in slot 0, whose id is 256
+  asked : step (exit CRASH) k tied ≡ (let t = through steps k 0 256 CRASH tied in out (ended 0 (t .sent) (t .lost)) (vacate (t .state) 0))
   unfolding tied afterwards ruled lowest poke with-col fresh freed stated zeroed ready push pull run firstHead tie joins depart
   asked = refl
 
   -- the calls before the exit
-  before : play k (fresh k s) BENCH ≡ made 0 64 ∷ made 0 65 ∷ turn 0 64 0 (pos 0) ∷ plain 0 ∷ step (exit CRASH) k tied .ans ∷ play k (step (exit CRASH) k tied .state) (next ∷ receiveAny (negsuc 0) ∷ show ∷ [])
+  before : play k (fresh k s) BENCH ≡ made 0 256 ∷ made 0 257 ∷ turn 0 256 0 (pos 0) ∷ plain 0 ∷ step (exit CRASH) k tied .ans ∷ play k (step (exit CRASH) k tied .state) (next ∷ receiveAny (negsuc 0) ∷ show ∷ [])
   unfolding lines tied afterwards ruled lowest poke with-col fresh freed stated zeroed ready push pull run firstHead tie joins
   before = refl
 
   -- the calls after it: the notice is received and shown
   after : play k (vacate noted 0) (next ∷ receiveAny (negsuc 0) ∷ show ∷ [])
-      ≡ turn 0 65 0 (pos 0) ∷ received 0 64 4 0 14
-      ∷ part (0x0C ∷ 0x00 ∷ 0x02 ∷ 0x00 ∷ 0x40 ∷ 0x00 ∷ 0x00 ∷ 0x00 ∷ 0xFD ∷ 0xFF ∷ 0x00 ∷ 0x00 ∷ 0x00 ∷ 0x00 ∷ [])
+      ≡ turn 0 257 0 (pos 0) ∷ received 0 256 4 0 22
+      ∷ part NOTICE
       ∷ []
   unfolding noted tied afterwards ruled lowest poke with-col fresh freed stated zeroed ready push pull run firstHead post stir enlist fill takeBit write tie
       joins unwait fits wants lines loosen vacate receiveBare letGo handOver delist freeBit headerAt le exitBytes endUse
@@ -115,6 +115,6 @@ module _ (s : State) where
   pub bench-run : play k (fresh k s) BENCH ≡ BENCH-ANSWERS
   bench-run =
       before
-      ∙ ap (λ (x : Out Answer). made 0 64 ∷ made 0 65 ∷ turn 0 64 0 (pos 0) ∷ plain 0 ∷ x .ans ∷ play k (x .state) (next ∷ receiveAny (negsuc 0) ∷ show ∷ []))
+      ∙ ap (λ (x : Out Answer). made 0 256 ∷ made 0 257 ∷ turn 0 256 0 (pos 0) ∷ plain 0 ∷ x .ans ∷ play k (x .state) (next ∷ receiveAny (negsuc 0) ∷ show ∷ []))
       (asked ∙ ap (λ (t : Told). out (ended 0 (t .sent) (t .lost)) (vacate (t .state) 0)) told-once)
-      ∙ ap (λ (ys : List Answer). made 0 64 ∷ made 0 65 ∷ turn 0 64 0 (pos 0) ∷ plain 0 ∷ ended 0 1 0 ∷ ys) after
+      ∙ ap (λ (ys : List Answer). made 0 256 ∷ made 0 257 ∷ turn 0 256 0 (pos 0) ∷ plain 0 ∷ ended 0 1 0 ∷ ys) after

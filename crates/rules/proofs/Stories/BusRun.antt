@@ -30,8 +30,8 @@ use Rattle.rules.specs.Examples.{NORMAL}
 use Rattle.rules.proofs.Stories.NotVacuous.{FEW, lined}
 use Rattle.rules.proofs.Stories.Plays.{Happens, can-start, story-happens}
 
--- bus 0 has one seat and room for one value, which ends after a millisecond; bus 1 has two seats and room for two, which end when they are read once. 64 sits on bus 0, where
--- its second value evicts the first, and 65 on bus 1, where it may read the second value alone; 66 leaves bus 1 by its end, and the clock ends what is left on bus 0
+-- bus 0 has one seat and room for one value, which ends after a millisecond; bus 1 has two seats and room for two, which end when they are read once. 256 sits on bus 0, where
+-- its second value evicts the first, and 257 on bus 1, where it may read the second value alone; 258 leaves bus 1 by its end, and the clock ends what is left on bus 0
 abbrev pub BUS-RUN : List Op
 BUS-RUN =
     bus 1 1 0 1 ∷ bus 2 2 1 0 ∷ spawn 0 ∷ spawn 0 ∷ spawn 0
@@ -43,24 +43,24 @@ BUS-RUN =
 -- what these calls answer
 abbrev pub BUS-ANSWERS : List Answer
 BUS-ANSWERS =
-    made 0 0 ∷ made 0 1 ∷ made 0 64 ∷ made 0 65 ∷ made 0 66
-    ∷ turn 0 64 0 (pos 0) ∷ plain 0 ∷ copied 5 [] ∷ plain 0 ∷ plain 0 ∷ plain 0 ∷ plain 0
-    ∷ turn 0 65 0 (pos 0) ∷ plain 0 ∷ plain 0 ∷ plain 0
-    ∷ turn 0 66 0 (pos 0) ∷ plain 0 ∷ ended 0 0 0
-    ∷ turn 0 64 0 (pos 0) ∷ advanced 0 0 ∷ plain 0 ∷ turn 0 65 0 (pos 0) ∷ []
+    made 0 0 ∷ made 0 1 ∷ made 0 256 ∷ made 0 257 ∷ made 0 258
+    ∷ turn 0 256 0 (pos 0) ∷ plain 0 ∷ copied 5 [] ∷ plain 0 ∷ plain 0 ∷ plain 0 ∷ plain 0
+    ∷ turn 0 257 0 (pos 0) ∷ plain 0 ∷ plain 0 ∷ plain 0
+    ∷ turn 0 258 0 (pos 0) ∷ plain 0 ∷ ended 0 0 0
+    ∷ turn 0 256 0 (pos 0) ∷ advanced 0 0 ∷ plain 0 ∷ turn 0 257 0 (pos 0) ∷ []
 
--- of four values the last two are left; 64 sat down before the first of the four, and 65 before the last
+-- of four values the last two are left; 256 sat down before the first of the four, and 257 before the last
 abbrev pub BUS-LEFT : Ledger
 BUS-LEFT = record {
   sizes = FEW;
-  people = people (record { id = 64; priority = 0 } ∷ record { id = 65; priority = 0 } ∷ []) 65 [];
+  people = people (record { id = 256; priority = 0 } ∷ record { id = 257; priority = 0 } ∷ []) 257 [];
   mail = mail [] [];
   time = time 1000 [] [];
   ties = ties [] [] [];
   buses = buses
       (record { entries = 1; subscribers = 1; reads = 0; age = 1 } ∷ record { entries = 2; subscribers = 2; reads = 1; age = 0 } ∷ [])
       (record { bus = 1; payload = 4 ∷ []; time = 0; reads = 0; rank = 2 } ∷ record { bus = 1; payload = 5 ∷ 6 ∷ []; time = 0; reads = 0; rank = 3 } ∷ [])
-      (record { bus = 0; who = 64; cursor = 0 } ∷ record { bus = 1; who = 65; cursor = 3 } ∷ [])
+      (record { bus = 0; who = 256; cursor = 0 } ∷ record { bus = 1; who = 257; cursor = 3 } ∷ [])
       4;
 }
 
@@ -68,7 +68,7 @@ BUS-LEFT = record {
 abbrev pub BUS-RAN : List Line
 BUS-RAN = line (start FEW) (plain 0) ∷ lined BUS-RUN BUS-ANSWERS
 
--- then 65 reads: a slice of one byte is too short; it reads the value that came after it sat down, which then ends, and nothing else is there for it
+-- then 257 reads: a slice of one byte is too short; it reads the value that came after it sat down, which then ends, and nothing else is there for it
 abbrev pub BUS-RUN-ON : List Op
 BUS-RUN-ON = BUS-RUN ++ (read 1 1 ∷ read 1 2 ∷ read 1 2 ∷ [])
 
@@ -106,7 +106,7 @@ pub bus-refusals : map (λ o. refusalDue BUS-LEFT (op o)) BUS-ASKED ≡ 1 ∷ 1 
 unfolding first some those oldestUnread
 bus-refusals = refl
 
--- 65 reads the value that came after it sat down, which then ends; nothing else is there for it
+-- 257 reads the value that came after it sat down, which then ends; nothing else is there for it
 pub bus-read : let l = entered (line (op (read 1 2)) (copied 0 (5 ∷ 6 ∷ []))) BUS-LEFT in
     (payloadOf (oldestUnread BUS-LEFT 1) ≡ 5 ∷ 6 ∷ []) × (map (λ v. v .payload) (l .buses .values) ≡ (4 ∷ []) ∷ []) × (oldestUnread l 1 ≡ [])
 unfolding entered first reading some those oldestUnread

@@ -34,35 +34,35 @@ use Rattle.rules.proofs.Stories.Plays.{Happens, can-start, story-happen
 abbrev pub FEW : Sizes
 FEW = pools 3 4 5 2 1 1
 
--- 65 links and watches, arms a timer that fires, sends three messages and takes the first with tag 8; then 66, linked to it, ends
+-- 257 links and watches, arms a timer that fires, sends three messages and takes the first with tag 8; then 258, linked to it, ends
 abbrev pub RUN : List Op
 RUN =
     spawn 1 ∷ spawn 0 ∷ spawn 0 ∷ next
-    ∷ link 64 ∷ link 66 ∷ monitor 64 ∷ every 200
-    ∷ notify 64 7 (1 ∷ 2 ∷ []) ∷ notify 65 5 [] ∷ notify 65 8 (3 ∷ []) ∷ receive ANY-SENDER ANY-CLASS 8 (pos 0)
+    ∷ link 256 ∷ link 258 ∷ monitor 256 ∷ every 200
+    ∷ notify 256 7 (1 ∷ 2 ∷ []) ∷ notify 257 5 [] ∷ notify 257 8 (3 ∷ []) ∷ receive ANY-SENDER ANY-CLASS 8 (pos 0)
     ∷ advance 300 ∷ yield ∷ next ∷ exit CRASH ∷ next ∷ []
 
 abbrev pub ANSWERS : List Answer
 ANSWERS =
-    made 0 64 ∷ made 0 65 ∷ made 0 66 ∷ turn 0 65 0 (pos 0)
+    made 0 256 ∷ made 0 257 ∷ made 0 258 ∷ turn 0 257 0 (pos 0)
     ∷ plain 0 ∷ plain 0 ∷ made 0 128 ∷ made 0 64
-    ∷ plain 0 ∷ plain 0 ∷ plain 0 ∷ received 0 65 0 8 1
-    ∷ advanced 0 1 ∷ plain 0 ∷ turn 0 66 0 (pos 0) ∷ ended 0 1 0 ∷ turn 0 65 0 (pos 0) ∷ []
+    ∷ plain 0 ∷ plain 0 ∷ plain 0 ∷ received 0 257 0 8 1
+    ∷ advanced 0 1 ∷ plain 0 ∷ turn 0 258 0 (pos 0) ∷ ended 0 1 0 ∷ turn 0 257 0 (pos 0) ∷ []
 
 -- who is there and runs; the messages in order, with the tick and the notice, and the one in hand; the clock and the timer, due anew; the link and the monitor that are left
 abbrev pub LEFT : Ledger
 LEFT = record {
   sizes = FEW;
-  people = people (record { id = 64; priority = 1 } ∷ record { id = 65; priority = 0 } ∷ []) 65 [];
+  people = people (record { id = 256; priority = 1 } ∷ record { id = 257; priority = 0 } ∷ []) 257 [];
   mail = mail
-      (message 64 65 (wrote 7 (1 ∷ 2 ∷ []))
-      ∷ message 65 65 (wrote 5 [])
-      ∷ message 65 0 (ticked 64)
-      ∷ message 65 66 (Says.ended 66 CRASH 0)
+      (message 256 257 (wrote 7 (1 ∷ 2 ∷ []))
+      ∷ message 257 257 (wrote 5 [])
+      ∷ message 257 0 (ticked 64)
+      ∷ message 257 258 (Says.ended 258 CRASH 0)
       ∷ [])
-      (message 65 65 (wrote 8 (3 ∷ [])) ∷ []);
-  time = time 300 (timer 64 65 400 200 ∷ []) [];
-  ties = ties (record { one = 65; two = 64 } ∷ []) (record { id = 128; watcher = 65; target = 64 } ∷ []) [];
+      (message 257 257 (wrote 8 (3 ∷ [])) ∷ []);
+  time = time 300 (timer 64 257 400 200 ∷ []) [];
+  ties = ties (record { one = 257; two = 256 } ∷ []) (record { id = 128; watcher = 257; target = 256 } ∷ []) [];
   buses = buses [] [] [] 0;
 }
 
@@ -95,22 +95,22 @@ unfolding aired butFirst bySlot first some those L.cleared L.between L.emptyHand
     partnerNotes pastClock rearmed reckon sendings soonest pickedUp wanted watcherNotes wornBy
 reckoned l = refl
 
--- calls to it, and the refusal that is due to each: 65 runs and 66 is nobody; the mailboxes, the monitor and the timer are taken; a tag is malformed before a target is unknown
+-- calls to it, and the refusal that is due to each: 257 runs and 258 is nobody; the mailboxes, the monitor and the timer are taken; a tag is malformed before a target is unknown
 abbrev pub ASKED : List Op
 ASKED =
-    next ∷ link 65 ∷ notify 66 ANY-TAG [] ∷ notify 66 0 [] ∷ notify 64 0 [] ∷ monitor 64 ∷ every 200
-    ∷ cancel 65 ∷ unlink 66 ∷ unlink 64 ∷ shown ∷ yield ∷ []
+    next ∷ link 257 ∷ notify 258 ANY-TAG [] ∷ notify 258 0 [] ∷ notify 256 0 [] ∷ monitor 256 ∷ every 200
+    ∷ cancel 65 ∷ unlink 258 ∷ unlink 256 ∷ shown ∷ yield ∷ []
 
 pub refusals-due : map (λ o. refusalDue LEFT (op o)) ASKED ≡ 4 ∷ 1 ∷ 1 ∷ 3 ∷ 2 ∷ 2 ∷ 2 ∷ 3 ∷ 3 ∷ 0 ∷ 0 ∷ 0 ∷ []
 unfolding some L.between
 refusals-due = refl
 
--- the counts that are due to calls: its timer is due at 400, but the mailboxes are full; 65 has one partner, and its own messages make room; the rest is what is free
+-- the counts that are due to calls: its timer is due at 400, but the mailboxes are full; 257 has one partner, and its own messages make room; the rest is what is free
 pub counts-due : map (λ o. page o .counts LEFT) (advance 1000 ∷ exit 0 ∷ report ∷ yield ∷ []) ≡ (0 ∷ []) ∷ (1 ∷ 0 ∷ []) ∷ (1 ∷ 0 ∷ 0 ∷ 1 ∷ 0 ∷ 0 ∷ []) ∷ [] ∷ []
 unfolding bySlot some those L.cleared L.between endLinks endMonitors endTimers firings notices partnerNotes sendings watcherNotes
 counts-due = refl
 
--- and where there is room, or less of it than is due: with 65's mailbox and hand empty the timer fires once it is due; where 64 runs, which 65 is linked with and watches, one of two notices is lost
-pub counts-short : (page (advance 1000) .counts (L.cleared 65 LEFT) ≡ 1 ∷ []) × (page (advance 99) .counts (L.cleared 65 LEFT) ≡ 0 ∷ []) × (page (exit 0) .counts (runs 64 LEFT) ≡ 1 ∷ 1 ∷ [])
+-- and where there is room, or less of it than is due: with 257's mailbox and hand empty the timer fires once it is due; where 256 runs, which 257 is linked with and watches, one of two notices is lost
+pub counts-short : (page (advance 1000) .counts (L.cleared 257 LEFT) ≡ 1 ∷ []) × (page (advance 99) .counts (L.cleared 257 LEFT) ≡ 0 ∷ []) × (page (exit 0) .counts (runs 256 LEFT) ≡ 1 ∷ 1 ∷ [])
 unfolding bySlot some those L.cleared L.between endLinks endMonitors endTimers firings notices partnerNotes sendings watcherNotes
 counts-short = (refl, refl, refl)

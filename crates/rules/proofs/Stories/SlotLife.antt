@@ -75,7 +75,7 @@ module _ (s : State) where
   age g = refl
 
   -- so a spawn takes it, and gives the id of the next age
-  spawned : (g : ℕ) → g < OLDEST → step (spawn 0) k (aged g) ≡ out (made 0 ((g + 1) * 64)) (taken g)
+  spawned : (g : ℕ) → g < OLDEST → step (spawn 0) k (aged g) ≡ out (made 0 ((g + 1) * 256)) (taken g)
   unfolding taken
   spawned g l =
       first-slot (aged g) (slot g l)
@@ -83,7 +83,7 @@ module _ (s : State) where
       ∙ ap (λ (i : ℕ). out (made 0 i) (ready (poke (poke (aged g) AGE 0 (g + 1)) PRIORITY 0 0) 0 0)) (omega arith)
 
   -- the actor runs
-  turned : (g : ℕ) → step next k (taken g) .ans ≡ turn 0 ((g + 1) * 64) 0 (pos 0)
+  turned : (g : ℕ) → step next k (taken g) .ans ≡ turn 0 ((g + 1) * 256) 0 (pos 0)
   unfolding aged taken ruled lowest poke with-col fresh freed stated zeroed ready push pull run firstHead
   turned g = ap (λ (i : ℕ). turn 0 i 0 (pos 0)) (omega arith)
 
@@ -119,12 +119,12 @@ module _ (s : State) where
 
   -- the answers of one use, and what comes after it
   one-use : (g : ℕ) (cs : List Op) → g < OLDEST → Good k (aged g) →
-      play k (aged g) (spawn 0 ∷ next ∷ exit NORMAL ∷ cs) ≡ made 0 ((g + 1) * 64) ∷ turn 0 ((g + 1) * 64) 0 (pos 0) ∷ ended 0 0 0 ∷ play k (aged (g + 1)) cs
+      play k (aged g) (spawn 0 ∷ next ∷ exit NORMAL ∷ cs) ≡ made 0 ((g + 1) * 256) ∷ turn 0 ((g + 1) * 256) 0 (pos 0) ∷ ended 0 0 0 ∷ play k (aged (g + 1)) cs
   unfolding lines
   one-use g cs l h =
       ap (λ (x : Out Answer). x .ans ∷ step next k (x .state) .ans ∷ step (exit NORMAL) k (step next k (x .state) .state) .ans ∷ play k (ran (x .state)) cs) (spawned g l)
-      ∙ ap₂ (λ (a b : Answer). made 0 ((g + 1) * 64) ∷ a ∷ b ∷ play k (ran (taken g)) cs) (turned g) (done g)
-      ∙ ap (λ (t : State). made 0 ((g + 1) * 64) ∷ turn 0 ((g + 1) * 64) 0 (pos 0) ∷ ended 0 0 0 ∷ play k t cs) (older g l h)
+      ∙ ap₂ (λ (a b : Answer). made 0 ((g + 1) * 256) ∷ a ∷ b ∷ play k (ran (taken g)) cs) (turned g) (done g)
+      ∙ ap (λ (t : State). made 0 ((g + 1) * 256) ∷ turn 0 ((g + 1) * 256) 0 (pos 0) ∷ ended 0 0 0 ∷ play k t cs) (older g l h)
 
   -- THE LAW: n uses, from any age on, give the next n ids of the slot, and leave it n uses older
   life : (n g : ℕ) (cs : List Op) → g + n ≤ OLDEST → Good k (aged g) → play k (aged g) (uses n ++ cs) ≡ usesFrom (g + 1) n ++ play k (aged (g + n)) cs
@@ -133,19 +133,19 @@ module _ (s : State) where
   life (suc n) g cs l h =
       let m : g < OLDEST = omega arith in
       one-use g (uses n ++ cs) m h
-      ∙ ap (λ (ys : List Answer). made 0 ((g + 1) * 64) ∷ turn 0 ((g + 1) * 64) 0 (pos 0) ∷ ended 0 0 0 ∷ ys)
+      ∙ ap (λ (ys : List Answer). made 0 ((g + 1) * 256) ∷ turn 0 ((g + 1) * 256) 0 (pos 0) ∷ ended 0 0 0 ∷ ys)
       (life n (g + 1) cs (omega arith) (subst (Good k) (older g m h) (ran-good g m h)) ∙ ap (λ (x : ℕ). usesFrom (g + 1 + 1) n ++ play k (aged x) cs) (omega arith))
 
   -- its last use, after which slot 1 is the lowest
-  last-use : play k (aged 32999999) (spawn 0 ∷ next ∷ exit NORMAL ∷ spawn 0 ∷ []) ≡ made 0 2112000000 ∷ turn 0 2112000000 0 (pos 0) ∷ ended 0 0 0 ∷ made 0 65 ∷ []
+  last-use : play k (aged 1099511627775) (spawn 0 ∷ next ∷ exit NORMAL ∷ spawn 0 ∷ []) ≡ made 0 281474976710656 ∷ turn 0 281474976710656 0 (pos 0) ∷ ended 0 0 0 ∷ made 0 257 ∷ []
   unfolding aged ruled lowest poke with-col fresh freed stated zeroed ready push pull run firstHead depart cutLinks cutLink cutMonitors dropAll endOwn leaveBuses letGo joins loosen vacate lines endUse
   last-use = refl
 
   -- THE THEOREM: from a fresh state on, slot 0 gives an id at each of 33,000,000 uses, the last of them 2,112,000,000; the spawn after that takes slot 1
-  pub whole-life : play k (fresh k s) (uses 32999999 ++ (spawn 0 ∷ next ∷ exit NORMAL ∷ spawn 0 ∷ []))
-      ≡ usesFrom 1 32999999 ++ (made 0 2112000000 ∷ turn 0 2112000000 0 (pos 0) ∷ ended 0 0 0 ∷ made 0 65 ∷ [])
+  pub whole-life : play k (fresh k s) (uses 1099511627775 ++ (spawn 0 ∷ next ∷ exit NORMAL ∷ spawn 0 ∷ []))
+      ≡ usesFrom 1 1099511627775 ++ (made 0 281474976710656 ∷ turn 0 281474976710656 0 (pos 0) ∷ ended 0 0 0 ∷ made 0 257 ∷ [])
   whole-life =
       let cs : List Op = spawn 0 ∷ next ∷ exit NORMAL ∷ spawn 0 ∷ [] in
-      ap (λ (t : State). play k t (uses 32999999 ++ cs)) new
-      ∙ life 32999999 0 cs (omega arith) (subst (Good k) new start-good)
-      ∙ ap (λ (ys : List Answer). usesFrom 1 32999999 ++ ys) last-use
+      ap (λ (t : State). play k t (uses 1099511627775 ++ cs)) new
+      ∙ life 1099511627775 0 cs (omega arith) (subst (Good k) new start-good)
+      ∙ ap (λ (ys : List Answer). usesFrom 1 1099511627775 ++ ys) last-use

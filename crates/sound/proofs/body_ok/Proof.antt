@@ -5,16 +5,16 @@ use Rattle.sound.proofs.body_ok.Statement.{statement}
 use Rattle.sound.proofs.body_ok.Tie as tie
 
 boxes-ok-requires : tie.Need-boxes-ok-requires
-boxes-ok-requires c κs = let s = c .before .before .before in (s .pre .0, s .pre .1 .0)
+boxes-ok-requires c κs = let s = c .before .before .before .before in (s .pre .0, s .pre .1 .0)
 
 datas-ok-requires : tie.Need-datas-ok-requires
-datas-ok-requires c κs = let s = c .before .before .before .before in (s .pre .0, s .pre .1 .0)
+datas-ok-requires c κs = let s = c .before .before .before .before .before in (s .pre .0, s .pre .1 .0)
 
 times-ok-requires : tie.Need-times-ok-requires
-times-ok-requires c κs = let s = c .before .before .before .before .before in (s .pre .0, s .pre .1 .0)
+times-ok-requires c κs = let s = c .before .before .before .before .before .before in (s .pre .0, s .pre .1 .0)
 
 buses-ok-requires : tie.Need-buses-ok-requires
-buses-ok-requires c κs = let s = c .before .before .before .before .before .before in (s .pre .0, (s .pre .1 .0, s .pre .1 .1))
+buses-ok-requires c κs = let s = c .before .before .before .before .before .before .before in (s .pre .0, (s .pre .1 .0, s .pre .1 .1))
 
 returns : tie.Need-returns
 returns c =

@@ -9,7 +9,7 @@ use Rattle.sound.proofs.boxes_ok.Tie as tie
 
 returns : tie.Need-returns
 returns c =
-    let a = c .before .before .before .before .args in
+    let a = c .before .before .before .before .before .args in
     and-same (c .before .slots .ensures) (c .boxes .ensures) ∙ slots-first (a .k) (view (a .k) (a .t .now) (a .p .now))
 
 pub boxes-ok-spec : {M : Type 1} → statement M

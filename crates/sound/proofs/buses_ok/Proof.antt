@@ -5,7 +5,7 @@ use Rattle.sound.proofs.buses_ok.Statement.{statement}
 use Rattle.sound.proofs.buses_ok.Tie as tie
 
 values-requires : tie.Need-values-requires
-values-requires c κs = let s = c .before .before .before in (s .pre .0, s .pre .1 .1)
+values-requires c κs = let s = c .before .before .before .before in (s .pre .0, s .pre .1 .1)
 
 returns : tie.Need-returns
 returns c = and-same (c .before .buses .ensures) (c .values .ensures)

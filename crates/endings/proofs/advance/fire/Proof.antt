@@ -20,4 +20,4 @@ returns c = let d = c .before .before .before .before .send-tick in
     record { is = rw (d .ensures .is, c .before .before .before .before .before .before .before .before .before .rearm .ensures .is, c .before .before .before .before .before .before .before .before .before .before .before .before .before .before .before .get .ensures, c .before .before .before .before .before .before .before .before .before .before .before .before .get2 .ensures); room = d .ensures .room }
 
 pub fire-spec : {M : Type 1} → statement M
-fire-spec = tie.close (tie.spec (λ c κs. search needs) (λ c κs. search needs) (λ c κs. search needs) (λ c. search needs) (λ c. search needs) (λ c. search needs) (λ c. search needs) send-tick-requires (λ c. search needs) (λ c. search needs) returns)
+fire-spec = tie.close (tie.spec (λ c κs. search needs) (λ c κs. search needs) (λ c κs. search needs) (λ c. search needs) (λ c. search needs) (λ c. search needs) send-tick-requires (λ c. search needs) (λ c. search needs) returns)

@@ -22,13 +22,6 @@ add-me c =
     let b = alive-fits (a .k) (view (a .k) (a .t .now) (a .p .now)) (a .a) (c1 .pre .1) (c1 .pre .2) in
     omega (arith, c .get .ensures, b .0, b .1)
 
-cast-through : tie.Need-cast-through
-cast-through c =
-    let c1 = c .before .before .before .before .before .before .before in
-    let a = c1 .args in
-    let b = alive-fits (a .k) (view (a .k) (a .t .now) (a .p .now)) (a .a) (c1 .pre .1) (c1 .pre .2) in
-    omega (arith, c .before .before .get .ensures, b .0, b .1)
-
 through-requires : tie.Need-through-requires
 through-requires c κs =
     let h = c .before .before .before .before .before .before .before .pre in
@@ -56,4 +49,4 @@ returns c =
     record { sent = d .sent; lost = d .lost; left = record { is = rw (v .is, d .left .is); room = v .room } }
 
 pub depart-spec : {M : Type 1} → statement M
-depart-spec = tie.close (tie.spec (λ c κs. search needs) mul-me add-me cast-through through-requires vacate-requires (λ c. search needs) (λ c. search needs) returns)
+depart-spec = tie.close (tie.spec (λ c κs. search needs) mul-me add-me through-requires vacate-requires (λ c. search needs) (λ c. search needs) returns)

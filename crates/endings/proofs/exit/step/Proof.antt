@@ -1,5 +1,5 @@
 -- Each arm does its step, and finds bare what that needs.
-use mathlib.Core.Path.{_≡_, refl}
+use mathlib.Core.Path.{refl}
 use native.Mathlib.Omega.{arith}
 use Rattle.tables.specs.State.{view}
 use Rattle.rules.proofs.Kept.Clauses.{arrivals-fit, buses-fit}
@@ -56,7 +56,7 @@ returns-2 c =
     let a = c2 .before .before .before .args in
     let s = view (a .k) (a .t .now) (a .p .now) in
     let d = c1 .cut-links .ensures in
-    (arm (a .k) (a .a) (a .me) (a .reason) s (a .i) 1 (c2 .match .keys2) (d .0), record { sent = omega (arith, d .1 .sent); lost = omega (arith, d .1 .lost) })
+    (arm (a .k) (a .a) (a .me) (a .reason) s (a .i) 1 (c2 .match .keys2) (d .0), d .1)
 
 returns-3 : tie.Need-returns-3
 returns-3 c =
@@ -65,7 +65,7 @@ returns-3 c =
     let a = c2 .before .before .before .args in
     let s = view (a .k) (a .t .now) (a .p .now) in
     let d = c1 .cut-monitors .ensures in
-    (arm (a .k) (a .a) (a .me) (a .reason) s (a .i) 2 (c2 .match .keys3) (d .0), d .1)
+    (arm (a .k) (a .a) (a .me) (a .reason) s (a .i) 2 (c2 .match .keys3) (d .0), record { sent = omega (arith, d .1 .sent); lost = omega (arith, d .1 .lost) })
 
 returns-4 : tie.Need-returns-4
 returns-4 c =

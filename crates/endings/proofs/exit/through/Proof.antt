@@ -3,7 +3,7 @@ use Prim.Native.Nat.{_≤_, _<_, _*_, _-_}
 use mathlib.Core.Path.{_≡_, refl, sym}
 use native.Mathlib.Omega.{arith}
 use lib.ListN.{length}
-use Rattle.tables.specs.Limits.{MOST-MONITORS}
+use Rattle.tables.specs.Limits.{MOST-ACTORS}
 use Rattle.tables.specs.State.{view, Room}
 use Rattle.endings.specs.Counted.{Few, toldOf}
 use Rattle.rules.proofs.Ends.Stepwise.{Midway, STEPS, both, both-none, midway-next, midway-none, onward}
@@ -16,7 +16,7 @@ abbrev Inv-loop : tie.InvT-loop
 Inv-loop t₀ p₀ k a me reason n₀ i₀ t p n i =
     Room k t p × (i ≤ STEPS) × Midway k a me i (view k t p)
     × (onward 0 k a me reason (view k t₀ p₀) ≡ both (toldOf n (view k t p)) (onward i k a me reason (view k t p)))
-    × Few n (MOST-MONITORS * i) × (length t ≡ length t₀) × (length p ≡ length p₀)
+    × Few n (MOST-ACTORS * i) × (length t ≡ length t₀) × (length p ≡ length p₀)
 
 abbrev μ-loop : tie.MeasureT-loop
 μ-loop t₀ p₀ k a me reason n₀ i₀ t p n i = STEPS - i

@@ -35,13 +35,6 @@ add-tell c = let a = c .before .before .before .before .before .before .before .
     let w = watcher-below (a .k) (a .a) (a .me) s (h .1 .0) (a .i) (h .1 .1) (h .1 .2) in
     omega (arith, c .before .before .before .before .before .before .before .get2 .ensures, w .2, h .1 .1, h .0 .caps .fewMonitors)
 
-cast-tell : tie.Need-cast-tell
-cast-tell c = let a = c .before .before .before .before .before .before .before .before .before .before .before .before .before .before .before .args in
-    let h = c .before .before .before .before .before .before .before .before .before .before .before .before .before .before .before .pre in
-    let s = view (a .k) (a .t .now) (a .p .now) in
-    let w = watcher-below (a .k) (a .a) (a .me) s (h .1 .0) (a .i) (h .1 .1) (h .1 .2) in
-    omega (arith, c .before .before .before .before .before .before .before .get2 .ensures, w .2, h .1 .1, h .0 .caps .fewMonitors)
-
 tell-requires : tie.Need-tell-requires
 tell-requires c κs = let a = c .before .before .before .before .before .before .before .before .before .before .before .before .before .before .before .args in
     let h = c .before .before .before .before .before .before .before .before .before .before .before .before .before .before .before .pre in
@@ -57,4 +50,4 @@ returns c = let a = c .before .before .before .before .before .before .before .b
     rw (cutMonitor-yes (a .k) (a .a) (a .me) (a .reason) (a .i) (toldOf (a .n) s) q) (rw (c .before .before .before .before .before .before .before .before .before .unwatch .ensures .is, c .before .before .before .before .before .before .before .before .before .before .before .before .before .before .before .get .ensures, c .before .before .before .before .before .before .before .before .before .before .before .before .get2 .ensures) at (c .before .before .before .before .tell .ensures))
 
 pub cut-eye-spec : {M : Type 1} → statement M
-cut-eye-spec = tie.close (tie.spec (λ c κs. search needs) (λ c κs. search needs) (λ c κs. search needs) sub-tell mul-tell add-tell cast-tell tell-requires (λ c. search needs) (λ c. search needs) returns)
+cut-eye-spec = tie.close (tie.spec (λ c κs. search needs) (λ c κs. search needs) (λ c κs. search needs) sub-tell mul-tell add-tell tell-requires (λ c. search needs) (λ c. search needs) returns)

@@ -11,7 +11,7 @@ use Rattle.rules.specs.Calls.{Told, told, cutLink, cutLinks}
 use Rattle.rules.specs.Good.{Going}
 use Rattle.endings.specs.Counted.{Few, toldOf}
 use Rattle.endings.specs.Partners.{Partners, cutEntry}
-use Rattle.endings.proofs.EndingLaws.{going-short, link-more, links-going, links-step, tells-told, told-tells}
+use Rattle.endings.proofs.EndingLaws.{going-short, going-small, link-more, links-going, links-step, tells-told, told-tells}
 use Rattle.endings.proofs.PartnerLaws.{cut-row}
 use borrow.Author.Needs.{needs}
 use Rattle.endings.proofs.notices.cut_links.Statement.{statement}
@@ -22,6 +22,9 @@ Inv-loop t₀ p₀ k a me reason slots row n₀ b₀ t p n b = Room k t p × (sl
 
 abbrev μ-loop : tie.MeasureT-loop
 μ-loop t₀ p₀ k a me reason slots row n₀ b₀ t p n b = slots - b
+
+add-partners : tie.Need-add-partners Inv-loop μ-loop
+add-partners c = omega (arith, going-small (c .before .before .before .before .pre .1))
 
 loop-holds : tie.Need-loop-holds Inv-loop μ-loop
 unfolding cutLinks
@@ -36,7 +39,7 @@ cut-link-requires c κs =
     let e : view (a .k) (l .t) (l .p) ≡ cutLinks (a .k) (a .a) (a .me) (a .reason) (l .b) (told 0 0 v) .state = ap (λ (u : Told). u .state) (l .inv .3) in
     let g : Going (a .k) (a .a) (a .me) (view (a .k) (l .t) (l .p)) = rw e (links-going (a .k) (a .a) (a .me) v (s .pre .1) (a .reason) (l .b)) in
     let o : l .b < MOST-ACTORS = omega (arith, s .pre .0 .caps .fewActors) in
-    (l .inv .0, (going-short (a .k) (a .a) (a .me) (view (a .k) (l .t) (l .p)) g, o, record { sent = omega (arith, l .inv .4 .sent); lost = omega (arith, l .inv .4 .lost) }))
+    (l .inv .0, (going-short (a .k) (a .a) (a .me) (view (a .k) (l .t) (l .p)) g, o, record { sent = omega (arith, l .inv .4 .sent); lost = omega (arith, l .inv .4 .lost) }, search needs))
 
 loop-again : tie.Need-loop-again Inv-loop μ-loop
 loop-again c =
@@ -73,4 +76,4 @@ returns c =
     )
 
 pub cut-links-spec : {M : Type 1} → statement M
-cut-links-spec = tie.close (tie.spec Inv-loop μ-loop (λ c. search needs) (λ c κs. search needs) loop-holds cut-link-requires (λ c. search needs) (λ c. search needs) loop-again (λ c. search needs) (λ c. search needs) returns)
+cut-links-spec = tie.close (tie.spec Inv-loop μ-loop add-partners (λ c κs. search needs) loop-holds (λ c. search needs) cut-link-requires (λ c. search needs) (λ c. search needs) loop-again (λ c. search needs) (λ c. search needs) returns)

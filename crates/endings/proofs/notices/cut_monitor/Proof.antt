@@ -9,9 +9,13 @@ use Rattle.tables.specs.Columns.{WATCHED}
 use Rattle.tables.specs.State.{at, view}
 use Rattle.rules.proofs.Kept.Exit.{cutMonitor-no}
 use Rattle.endings.specs.Counted.{toldOf}
+use Rattle.endings.proofs.EndingLaws.{going-small}
 use borrow.Author.Needs.{needs}
 use Rattle.endings.proofs.notices.cut_monitor.Statement.{statement}
 use Rattle.endings.proofs.notices.cut_monitor.Tie as tie
+
+add-if1 : tie.Need-add-if1
+add-if1 c = let h = c .before .before .before .before .before .pre in omega (arith, going-small (h .1 .0))
 
 cut-eye-requires : tie.Need-cut-eye-requires
 cut-eye-requires c κs = let h = c .before .before .before .before .before .before .before .before .pre in
@@ -24,4 +28,4 @@ returns-2 c = let a = c .before .before .before .before .before .before .args in
     rw (cutMonitor-no (a .k) (a .a) (a .me) (a .reason) (a .i) (toldOf (a .n) s) q) (record { sent = refl; lost = refl; left = record { is = refl; room = c .before .before .before .before .before .before .pre .0 } })
 
 pub cut-monitor-spec : {M : Type 1} → statement M
-cut-monitor-spec = tie.close (tie.spec (λ c κs. search needs) (λ c. search needs) cut-eye-requires (λ c. search needs) (λ c. search needs) (λ c. search needs) (λ c. search needs) (λ c. search needs) returns-2)
+cut-monitor-spec = tie.close (tie.spec (λ c κs. search needs) add-if1 cut-eye-requires (λ c. search needs) (λ c. search needs) (λ c. search needs) (λ c. search needs) (λ c. search needs) returns-2)

@@ -23,4 +23,4 @@ returns-4 c =
     placed-kept (a .row .now) (a .b) (a .e) (a .b - 1) (omega arith) (c .if3 .left)
 
 pub note-spec : {M : Type 1} → statement M
-note-spec = tie.close (tie.spec returns returns-2 (λ c. search needs) (λ c. search needs) (λ c. search needs) (λ c. search needs) (λ c. search needs) returns-3 returns-4)
+note-spec = tie.close (tie.spec returns returns-2 (λ c. search needs) (λ c. search needs) (λ c. search needs) returns-3 returns-4)

@@ -12,7 +12,7 @@ partners-in-requires c κs =
     let s = c .before .before .before .before in
     let a = s .args in
     let f = view-full (a .k) (a .t .now) (a .p .now) (s .pre .words) in
-    (rw (c .before .column .ensures) (omega (arith, f LINK-ONE (lit< tt))), rw (c .column2 .ensures) (omega (arith, f LINK-TWO (lit< tt))))
+    (s .pre .caps .fewLinks, rw (c .before .column .ensures) (omega (arith, f LINK-ONE (lit< tt))), rw (c .column2 .ensures) (omega (arith, f LINK-TWO (lit< tt))))
 
 returns : tie.Need-returns
 returns c = rw (c .before .before .column .ensures, c .before .column2 .ensures) at (c .partners-in .ensures)

@@ -19,6 +19,12 @@ abbrev μ-loop : tie.MeasureT-loop
 loop-holds : tie.Need-loop-holds Inv-loop μ-loop
 loop-holds c = (search needs, search needs, partners-none _ _ _)
 
+cast-note : tie.Need-cast-note Inv-loop μ-loop
+cast-note c = let a = c .before .before .before .before .before .before .before .before in omega (arith, c .before .before .before .before .loop-test .taken, a .pre .0)
+
+add-note : tie.Need-add-note Inv-loop μ-loop
+add-note c = let a = c .before .before .before .before .before .before .before .before in omega (arith, c .before .before .before .before .loop-test .taken, a .pre .0)
+
 loop-again : tie.Need-loop-again Inv-loop μ-loop
 loop-again c =
     let a = c .before .before .before .before .before .before .before .before .before .args in
@@ -29,4 +35,4 @@ returns : tie.Need-returns Inv-loop μ-loop
 returns c = let e : c .before .loop .e ≡ c .before .before .before .before .args .n = omega arith in rw e at (c .before .loop .inv .2)
 
 pub partners-in-spec : {M : Type 1} → statement M
-partners-in-spec = tie.close (tie.spec Inv-loop μ-loop loop-holds (λ c. search needs) (λ c. search needs) (λ c. search needs) (λ c. search needs) (λ c κs. search needs) (λ c. search needs) (λ c κs. search needs) (λ c. search needs) (λ c. search needs) loop-again returns)
+partners-in-spec = tie.close (tie.spec Inv-loop μ-loop loop-holds (λ c. search needs) (λ c. search needs) (λ c. search needs) (λ c. search needs) (λ c κs. search needs) cast-note add-note (λ c κs. search needs) (λ c. search needs) (λ c. search needs) loop-again returns)

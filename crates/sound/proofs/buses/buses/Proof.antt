@@ -9,11 +9,11 @@ use Rattle.sound.proofs.buses.buses.Statement.{statement}
 use Rattle.sound.proofs.buses.buses.Tie as tie
 
 made-requires : tie.Need-made-requires
-made-requires c κs = let s = c .before .before in (s .pre .0, s .pre .1 .1)
+made-requires c κs = let s = c .before .before .before in (s .pre .0, s .pre .1 .1)
 
 rows-requires : tie.Need-rows-requires
 rows-requires c κs =
-    let s = c .before .before .before .before in
+    let s = c .before .before .before .before .before in
     let a = s .args in
     (s .pre .0, (s .pre .1 .0, s .pre .1 .1, reads (each MOST-BUSES (λ b. busRule (view (a .k) (a .t .now) (a .p .now)) b)) .0 (sym (c .before .made .ensures) ∙ c .if1 .taken)))
 

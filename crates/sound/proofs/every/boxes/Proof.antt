@@ -14,12 +14,12 @@ use Rattle.sound.proofs.every.boxes.Tie as tie
 
 list-ok-requires : tie.Need-list-ok-requires
 list-ok-requires c κs =
-    let s = c .before .before .before .before .before in
+    let s = c .before .before .before .before .before .before in
     rw (c .column .ensures) (omega (arith, view-full (s .args .k) (s .args .t .now) (s .args .p .now) (s .pre .0 .words) ARRIVAL (lit< tt)))
 
 returns : tie.Need-returns
 returns c =
-    let a = c .before .before .before .before .before .before .args in
+    let a = c .before .before .before .before .before .before .before .args in
     let v = view (a .k) (a .t .now) (a .p .now) in
     and-same (c .before .before .before .kept .ensures) (c .list-ok .ensures ∙ list-at (a .k .mails) (c .before .before .get .ensures) (c .before .column .ensures))
     ∙ box-parts (a .k) v

@@ -11,7 +11,7 @@ use Rattle.sound.proofs.mails.keep_ok.Tie as tie
 returns : tie.Need-returns
 returns c =
     let b = c .before .before .before in
-    let s = b .before .before .before .before .before in
+    let s = b .before .before .before .before .before .before in
     let a = s .args in
     let v = view (a .k) (a .t .now) (a .p .now) in
     rw (b .before .before .lives .ensures)
@@ -20,7 +20,7 @@ returns c =
 
 returns-2 : tie.Need-returns-2
 returns-2 c =
-    let s = c .before .before .before .before .before in
+    let s = c .before .before .before .before .before .before in
     let a = s .args in
     rw (c .before .before .lives .ensures)
     (keep-other (a .k) (view (a .k) (a .t .now) (a .p .now)) (s .pre .1) (a .owner) (a .entry) (sym (c .before .waits .ensures) ∙ c .if1 .left))

@@ -19,22 +19,22 @@ abbrev μ-loop : tie.MeasureT-loop
 
 loop-holds : tie.Need-loop-holds Inv-loop μ-loop
 loop-holds c =
-    let a = c .before .before .before .before .before .args in
+    let a = c .before .before .before .before .before .before .args in
     (search needs, search needs, each-past (λ i. keptRule (a .k) (view (a .k) (a .t .now) (a .p .now)) i) (a .from))
 
 kept-ok-requires : tie.Need-kept-ok-requires Inv-loop μ-loop
 kept-ok-requires c κs =
-    let s = c .before .before .before .before .before .before .before in
+    let s = c .before .before .before .before .before .before .before .before in
     (s .pre .0, (s .pre .1 .0, omega (arith, s .pre .1 .2)))
 
 loop-again : tie.Need-loop-again Inv-loop μ-loop
 loop-again c =
     let l = c .before .before .loop in
-    let a = c .before .before .before .before .before .before .before .before .args in
+    let a = c .before .before .before .before .before .before .before .before .before .args in
     (search needs, search needs, and-same (l .inv .2) (c .kept-ok .ensures) ∙ each-next (λ i. keptRule (a .k) (view (a .k) (a .t .now) (a .p .now)) i) (a .from) (l .e) (l .inv .0))
 
 returns : tie.Need-returns Inv-loop μ-loop
-returns c = let q : c .before .loop .e ≡ c .before .before .before .before .before .before .before .args .end = omega arith in rw q at (c .before .loop .inv .2)
+returns c = let q : c .before .loop .e ≡ c .before .before .before .before .before .before .before .before .args .end = omega arith in rw q at (c .before .loop .inv .2)
 
 pub kept-between-spec : {M : Type 1} → statement M
 kept-between-spec =

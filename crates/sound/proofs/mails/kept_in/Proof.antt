@@ -24,7 +24,7 @@ loop-holds c = (search needs, rw all-none)
 kept-run-requires : tie.Need-kept-run-requires Inv-loop μ-loop
 kept-run-requires c κs =
     let l = c .before .before .before .loop in
-    let s = c .before .before .before .before .before .before .before .before .before in
+    let s = c .before .before .before .before .before .before .before .before .before .before in
     (s .pre .0, (s .pre .1, omega (arith, l .inv .0, s .pre .0 .caps .fewMails), l .inv .0, c .least .ensures))
 
 loop-less : tie.Need-loop-less Inv-loop μ-loop
@@ -33,13 +33,13 @@ loop-less c = omega (arith, c .before .least .ensures, c .before .before .before
 loop-again : tie.Need-loop-again Inv-loop μ-loop
 loop-again c =
     let l = c .before .before .before .before .loop in
-    let a = c .before .before .before .before .before .before .before .before .before .before .args in
+    let a = c .before .before .before .before .before .before .before .before .before .before .before .args in
     (omega (arith, c .before .least .ensures), and-same (l .inv .1) (c .kept-run .ensures) ∙ each-on (λ e. keptRule (a .k) (view (a .k) (a .t .now) (a .p .now)) e) (l .from) (c .before .least .result) (omega (arith, c .before .least .ensures, l .inv .0)))
 
 returns : tie.Need-returns Inv-loop μ-loop
 returns c =
     let l = c .before .before .loop in
-    let q : l .from ≡ c .before .before .before .before .before .before .before .before .args .k .mails = omega (arith, l .inv .0) in rw q at (l .inv .1)
+    let q : l .from ≡ c .before .before .before .before .before .before .before .before .before .args .k .mails = omega (arith, l .inv .0) in rw q at (l .inv .1)
 
 pub kept-in-spec : {M : Type 1} → statement M
 kept-in-spec =

@@ -13,26 +13,26 @@ use Rattle.sound.proofs.mails.kept_run.Tie as tie
 
 shared-slice-read-if1 : tie.Need-shared-slice-read-if1
 shared-slice-read-if1 c =
-    let s = c .before .before .before .before .before .before in
+    let s = c .before .before .before .before .before .before .before in
     let a = s .args in
     rw (s .pre .1 .0 .free) (omega (arith, s .pre .1 .1, view-full (a .k) (a .t .now) (a .p .now) (s .pre .0 .words) MAIL-FREE (lit< tt)))
 
 zero-from-requires : tie.Need-zero-from-requires
 zero-from-requires c κs =
-    let s = c .before .before .before .before .before .before .before in
+    let s = c .before .before .before .before .before .before .before .before in
     let a = s .args in
     (omega (arith, s .pre .1 .2, s .pre .1 .3), rw (s .pre .1 .0 .owned) (omega (arith, s .pre .1 .3, view-full (a .k) (a .t .now) (a .p .now) (s .pre .0 .words) MAIL-OWNER (lit< tt))))
 
 zero-from-requires-2 : tie.Need-zero-from-requires-2
 zero-from-requires-2 c κs =
-    let s = c .before .before .before .before .before .before .before .before in
+    let s = c .before .before .before .before .before .before .before .before .before in
     let a = s .args in
     (omega (arith, s .pre .1 .2, s .pre .1 .3), rw (s .pre .1 .0 .held) (omega (arith, s .pre .1 .3, view-full (a .k) (a .t .now) (a .p .now) (s .pre .0 .words) MAIL-DATA (lit< tt))))
 
 returns : tie.Need-returns
 returns c =
     let i = c .before .before in
-    let s = i .before .before .before .before .before .before .before in
+    let s = i .before .before .before .before .before .before .before .before in
     let a = s .args in
     let v = view (a .k) (a .t .now) (a .p .now) in
     let h = s .pre .1 .0 in
@@ -42,7 +42,7 @@ returns c =
 
 kept-between-requires : tie.Need-kept-between-requires
 kept-between-requires c κs =
-    let s = c .before .before .before .before .before .before .before in
+    let s = c .before .before .before .before .before .before .before .before in
     (s .pre .0, (s .pre .1 .0, omega (arith, s .pre .1 .2, s .pre .1 .3), omega (arith, s .pre .1 .3)))
 
 pub kept-run-spec : {M : Type 1} → statement M

@@ -1,15 +1,12 @@
 -- `sound::standing::waits` meets its contract.
 use native.Mathlib.Omega.{arith}
-use borrow.Author.Tests.{lt-ltb, le-ltb}
+use Rattle.sound.proofs.StandingLaws.{past-waits}
 use borrow.Author.Needs.{needs}
 use Rattle.sound.proofs.standing.waits.Statement.{statement}
 use Rattle.sound.proofs.standing.waits.Tie as tie
 
-returns : tie.Need-returns
-returns c = rw (lt-ltb _ _ (c .before .if1 .taken))
-
 returns-2 : tie.Need-returns-2
-returns-2 c = rw (le-ltb (c .before .args .word) 128 (omega arith))
+returns-2 c = let a = c .before .args in past-waits (a .row .now) (a .word) (omega arith)
 
 pub waits-spec : {M : Type 1} → statement M
-waits-spec = tie.close (tie.spec (λ c. search needs) returns returns-2)
+waits-spec = tie.close (tie.spec (λ c. search needs) (λ c. search needs) returns-2)

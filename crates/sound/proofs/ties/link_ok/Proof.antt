@@ -11,7 +11,7 @@ use Rattle.sound.proofs.ties.link_ok.Tie as tie
 
 returns : tie.Need-returns
 returns c =
-    let a = c .before .args in
+    let a = c .before .before .before .args in
     let z = c .if1 .taken in
     record {
       none = λ e. (link-none (a .row .now) (a .one) (a .two) z, refl);
@@ -20,19 +20,24 @@ returns c =
     }
 
 -- the ends are those of two live actors
-ends : (c : tie.Then2) → test (endsIn (c .before .before .before .args .row .now) (c .before .before .before .args .one) (c .before .before .before .args .two)) ≡ true
+ends : (c : tie.Then2) → let a = c .before .before .before .before .before .args in test (endsIn (a .row .now) (a .one) (a .two)) ≡ true
 ends c = sym (c .before .ends-ok .ensures) ∙ c .if2 .taken
 
 pair-new-requires : tie.Need-pair-new-requires
-pair-new-requires c κs = let s = c .before .before .before .before in ends-inside (s .pre) (s .args .one) (s .args .two) (ends (c .before))
+pair-new-requires c κs =
+    let s = c .before .before .before .before .before .before in
+    let e = ends-inside (s .pre .0) (s .args .one) (s .args .two) (ends (c .before)) in
+    (s .pre .1, e .0, e .1)
 
 returns-2 : tie.Need-returns-2
 returns-2 c =
-    let n = c .before .before .before .before .if1 .left in
+    let p = c .before .before in
+    let t = p .before .before in
+    let n = t .before .before .if1 .left in
     record {
       none = λ z. absurd (n z);
-      good = λ m t. c .pair-new .ensures;
-      bad = λ m f. true-false _ (ends (c .before .before)) f;
+      good = λ m g. p .pair-new .ensures;
+      bad = λ m f. true-false _ (ends t) f;
     }
 
 returns-3 : tie.Need-returns-3
@@ -45,4 +50,4 @@ returns-3 c =
     }
 
 pub link-ok-spec : {M : Type 1} → statement M
-link-ok-spec = tie.close (tie.spec returns (λ c κs. search needs) pair-new-requires returns-2 returns-3)
+link-ok-spec = tie.close (tie.spec returns (λ c κs. search needs) pair-new-requires (λ c. search needs) returns-2 returns-3)

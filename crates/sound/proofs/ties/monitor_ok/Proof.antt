@@ -5,11 +5,11 @@ use Rattle.sound.proofs.ties.monitor_ok.Statement.{statement}
 use Rattle.sound.proofs.ties.monitor_ok.Tie as tie
 
 returns : tie.Need-returns
-returns c = let a = c .before .args in monitor-none (a .row .now) (a .watcher) (a .watched) (a .age) (c .if1 .taken)
+returns c = let a = c .before .before .args in monitor-none (a .row .now) (a .watcher) (a .watched) (a .age) (c .if1 .taken)
 
 returns-2 : tie.Need-returns-2
 returns-2 c =
-    let a = c .before .before .args in
+    let a = c .before .before .before .args in
     rw (c .ends-ok .ensures) (monitor-used (a .row .now) (a .watcher) (a .watched) (a .age) (c .before .if1 .left))
 
 pub monitor-ok-spec : {M : Type 1} → statement M

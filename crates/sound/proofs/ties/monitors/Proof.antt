@@ -12,14 +12,14 @@ use Rattle.sound.proofs.ties.monitors.Tie as tie
 
 monitors-in-requires : tie.Need-monitors-in-requires
 monitors-in-requires c κs =
-    let s = c .before .before .before .before .before in
+    let s = c .before .before .before .before .before .before in
     let a = s .args in
     let v = view-full (a .k) (a .t .now) (a .p .now) (s .pre .0 .words) in
     (rw (c .before .before .column .ensures) (omega (arith, v WATCHER (lit< tt))), rw (c .before .column2 .ensures) (omega (arith, v WATCHED (lit< tt))), rw (c .column3 .ensures) (omega (arith, v MONITOR-AGE (lit< tt))))
 
 returns : tie.Need-returns
 returns c =
-    let s = c .before .before .before .before .before .before in
+    let s = c .before .before .before .before .before .before .before in
     let a = s .args in
     (rw (c .before .column3 .ensures, c .before .before .column2 .ensures, c .before .before .before .column .ensures) at (c .monitors-in .ensures))
     ∙ monitors-same (view (a .k) (a .t .now) (a .p .now)) (s .pre .1) (a .k .monitors)

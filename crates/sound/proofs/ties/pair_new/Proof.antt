@@ -4,7 +4,16 @@ use Rattle.sound.proofs.ties.pair_new.Statement.{statement}
 use Rattle.sound.proofs.ties.pair_new.Tie as tie
 
 returns : tie.Need-returns
-returns c = record { new = rw (c .before .before .before .before .is-marked .ensures); marks = rw (c .mark2 .ensures, c .before .before .mark .ensures) }
+returns c =
+    let second = c .before .before in
+    let first = second .before .before .before .before in
+    let asked = first .before .before in
+    let two = asked .before .before in
+    record {
+      new = rw (asked .is-free .ensures, two .before .place .ensures);
+      marks = rw (second .release2 .ensures, first .release .ensures, two .place2 .ensures, two .before .place .ensures);
+    }
 
 pub pair-new-spec : {M : Type 1} → statement M
-pair-new-spec = tie.close (tie.spec (λ c. search needs) (λ c. search needs) (λ c κs. search needs) (λ c κs. search needs) (λ c κs. search needs) returns)
+pair-new-spec =
+    tie.close (tie.spec (λ c. search needs) (λ c. search needs) (λ c κs. search needs) (λ c κs. search needs) (λ c κs. search needs) (λ c κs. search needs) (λ c κs. search needs) (λ c. search needs) returns)

@@ -5,11 +5,11 @@ use Rattle.sound.proofs.ties.timer_ok.Statement.{statement}
 use Rattle.sound.proofs.ties.timer_ok.Tie as tie
 
 returns : tie.Need-returns
-returns c = let a = c .before .args in timer-none (a .row .now) (a .owner) (a .age) (a .due) (a .interval) (c .if1 .taken)
+returns c = let a = c .before .before .args in timer-none (a .row .now) (a .owner) (a .age) (a .due) (a .interval) (c .if1 .taken)
 
 returns-2 : tie.Need-returns-2
 returns-2 c =
-    let a = c .before .before .before .args in
+    let a = c .before .before .before .before .args in
     rw (c .before .lives .ensures, c .interval-ok .ensures) (timer-used (a .row .now) (a .owner) (a .age) (a .due) (a .interval) (c .before .before .if1 .left))
 
 pub timer-ok-spec : {M : Type 1} → statement M
