@@ -7,7 +7,7 @@ use native.Mathlib.Nat.{sub-zero}
 use native.Mathlib.Numerals.{add-one}
 use native.Mathlib.Omega.{arith}
 use lib.ListN.{length, get_or, set, take, drop, replicate, length-append, length-set, length-replicate, take-append-drop, get_or-append}
-use lib.Seq.{append_snoc, drop-append-add, drop_at, drop-set-lt, get_or_at, get_or-set_other, get_or-set_same, get_or-take, length-slice, length-take-le, set-get_or, set-set, sets, sets_eq, slice, slice-cons, slice_empty, take_at, take-set-lt, take-suc-set}
+use lib.Seq.{append_snoc, drop-append-add, drop_at, drop-set-lt, get_or_at, get_or-set_other, get_or-set_same, get_or-take, length-slice, length-take-le, set-get_or, set-set, sets, sets-eq, slice, slice-cons, slice_empty, take_at, take-set-lt, take-suc-set}
 use lib.Dec.{eqb}
 use borrow.Author.Count.{below_more}
 use borrow.Author.Tests.{eqb-true, ne_eqb, lt-ltb, le-ltb}
@@ -40,7 +40,7 @@ module _ (n : ℕ) (l : List ℕ) where
   over_rest w h g =
       let e : length (replicate {A = ℕ} (n - w) 0) ≡ n - w = length-replicate (n - w) 0 in
       let f : w + (n - w) ≡ n = omega arith in
-      rw slice_empty (sym (sets_eq (replicate (n - w) 0) l w (omega arith) ∙ rw (e, f) (append_assoc (take w l) (replicate (n - w) 0) (drop n l))))
+      rw slice_empty (sym (sets-eq (replicate (n - w) 0) l w (omega arith) ∙ rw (e, f) (append_assoc (take w l) (replicate (n - w) 0) (drop n l))))
 
   module _ (w i : ℕ) (h : w ≤ i) (g : i < n) (f : n ≤ length l) where
     -- the i-th stays, as the w-th

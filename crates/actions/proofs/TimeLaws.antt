@@ -6,7 +6,7 @@ use mathlib.Core.List.{List}
 use native.Mathlib.Omega.{arith}
 use lib.ListN.{get_or}
 use lib.Dec.{eqb, ltb}
-use borrow.Author.Tests.{eqb_false}
+use borrow.Author.Tests.{eqb-false}
 use Rattle.pools.proofs.BoolLaws.{split}
 use Rattle.rules.specs.Actions.{least}
 use Rattle.actions.specs.Times.{due_in, earliest_in}
@@ -25,7 +25,7 @@ noted_none used time limit first = record { is = refl; when = λ n. absurd (n re
 module _ {used time : List ℕ} {limit i best first : ℕ} (h : Noted used time limit i best first) where
   -- the time that was noted is that of the best
   comes : (eqb best 0 || ltb (get_or time i 0) first) ≡ (eqb best 0 || ltb (get_or time i 0) (get_or time (best - 1) 0))
-  comes = split (eqb best 0) (λ q. rw q) (λ q. rw (h.when (eqb_false best 0 q)))
+  comes = split (eqb best 0) (λ q. rw q) (λ q. rw (h.when (eqb-false best 0 q)))
 
   -- entry i comes first
   pub noted-next : due_in used time limit i && (eqb best 0 || ltb (get_or time i 0) first) ≡ true → Noted used time limit (i + 1) (i + 1) (get_or time i 0)

@@ -1,4 +1,6 @@
 // The actions that the runtime's calls are made of, each as crate rules defines it.
+#![tactic(auto)]
+
 pub mod airing;
 pub mod buses;
 pub mod dropping;

@@ -1,5 +1,7 @@
 // Replays a trace from standard input and tells, in plain text, who ended with what still in its name, which calls were aimed at
 // a track that had ended, which pools were full, and what is left at the end. The last line is the verdict, as the program replay has it.
+#![tactic(auto)]
+
 use judge::step::fg_replay;
 use tables::limits::WORDS_MOST;
 use telling::aimed::{is_aimed, tell_aimed};

@@ -1,4 +1,6 @@
 // The bench run of document 01: two tracks, linked; the first crashes, and the second is told.
+#![tactic(auto)]
+
 use libc::STDOUT_FILENO;
 use records::exit::fg_read_exit;
 use records::reason::fg_reason_word;

@@ -7,7 +7,7 @@ use native.Mathlib.Nat.{zero-add}
 use native.Mathlib.Omega.{arith}
 use lib.Dec.{eqb, ltb}
 use lib.ListN.{length, take, drop, length-drop}
-use lib.Seq.{drop_at, length-sets, length-take-le, sets, sets_eq, take_at}
+use lib.Seq.{drop_at, length-sets, length-take-le, sets, sets-eq, take_at}
 use Rattle.tables.specs.declared.Caps.{Caps}
 use Rattle.tables.specs.Columns.{LENGTH, PAYLOAD}
 use Rattle.tables.specs.Limits.{ENTRY-BYTES, HEADER-BYTES, PAYLOAD-MOST}
@@ -46,7 +46,7 @@ module _ (k : Caps) (s : State) (b room : ℕ) (runs : eqb (runner s) 0 ≡ fals
 -- ---- bytes copied to the front of a lent slice
 copied : (m l : List ℕ) (n : ℕ) → length m ≡ n → n ≤ length l → (take n (sets l 0 m) ≡ m) × Onto n l (sets l 0 m)
 copied m l n e h =
-    let s : sets l 0 m ≡ m ++ drop n l = sets_eq m l 0 (omega arith) ∙ ap (λ (i : ℕ). m ++ drop i l) (zero-add (length m) ∙ e) in
+    let s : sets l 0 m ≡ m ++ drop n l = sets-eq m l 0 (omega arith) ∙ ap (λ (i : ℕ). m ++ drop i l) (zero-add (length m) ∙ e) in
     (ap (take n) s ∙ take_at m (drop n l) n e, (h, length-sets l 0 m, ap (drop n) s ∙ drop_at m (drop n l) n e))
 
 -- those of data entry d

@@ -1,4 +1,6 @@
 // Each call of the runtime on buffers that hold a sound one: the answer and the state of its rule.
+#![tactic(auto)]
+
 pub mod buses;
 pub mod ids;
 pub mod messages;

@@ -1,5 +1,7 @@
 // Runtimes at the largest and the smallest capacities; then a small one in which one thing is broken, another each time. The test of
 // soundness and a host call must refuse each.
+#![tactic(auto)]
+
 use breaks::{set, state, tell};
 use places::{least, word_at};
 use runtime::start::fg_start;

@@ -9,7 +9,7 @@ use lib.ListN.{length, get_or, set, replicate, length-set, get_or-replicate}
 use lib.Seq.{get_or-set_same, get_or-set_other}
 use lib.Dec.{eqb, ltb}
 use borrow.Author.Count.{below_more}
-use borrow.Author.Tests.{eqb-true, eqb_false, ne_eqb, ltb-true, ltb-false, lt-ltb, le-ltb}
+use borrow.Author.Tests.{eqb-true, eqb-false, ne_eqb, ltb-true, ltb-false, lt-ltb, le-ltb}
 use Rattle.pools.specs.Pool.{lowest}
 use Rattle.pools.proofs.BoolLaws.{split}
 use Rattle.pools.proofs.PoolLaws.{lowest-at, lowest-first, lowest-found, lowest_none, lowest-same}
@@ -38,7 +38,7 @@ module _ (row : List ℕ) (b e : ℕ) where
     long = length-set row i e;
     entry = λ c m. split (eqb b (suc c))
         (λ r. let v : i ≡ c = omega (arith, eqb-true b (suc c) r) in rw (r, ← v, z) (get_or-set_same row i e 0 l))
-        (λ r. rw r (get_or-set_other row i c e 0 (λ v. eqb_false b (suc c) r (omega arith))));
+        (λ r. rw r (get_or-set_other row i c e 0 (λ v. eqb-false b (suc c) r (omega arith))));
   }
 
   -- it is not
@@ -65,7 +65,7 @@ ends o w x b =
     (λ q. split (eqb w (suc b))
     (λ r. rw (q, r))
     (λ r. split (eqb o (suc b))
-    (λ u. let n : eqb w x ≡ false = ne_eqb w x (λ v. eqb_false w (suc b) r (v ∙ sym (eqb-true o x q) ∙ eqb-true o (suc b) u)) in rw (q, r, u, n))
+    (λ u. let n : eqb w x ≡ false = ne_eqb w x (λ v. eqb-false w (suc b) r (v ∙ sym (eqb-true o x q) ∙ eqb-true o (suc b) u)) in rw (q, r, u, n))
     (λ u. rw (q, r, u))))
     (λ q. split (eqb w x)
     (λ r. split (eqb o (suc b)) (λ u. rw (q, r, u)) (λ u. rw (q, r, u)))

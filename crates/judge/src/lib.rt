@@ -1,4 +1,6 @@
 // A trace judged, record by record, on two buffers.
+#![tactic(auto)]
+
 pub mod buses;
 pub mod each;
 pub mod feed;

@@ -1,4 +1,6 @@
 // Replays a trace from standard input, whatever its length, in fixed memory, and writes one line: `ok N`, `bad N` or `cut N`.
+#![tactic(auto)]
+
 ghost use Rattle.std.specs.Prelude.{true, ◌+◌, ◌≤◌, length};
 ghost use Rattle.judge.specs.Feeding.{Bench};
 

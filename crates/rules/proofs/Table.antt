@@ -7,7 +7,7 @@ use mathlib.Core.Bool.{Bool, true, false, not, ◌&&◌}
 use mathlib.Core.List.{List, [], ◌∷◌, ◌++◌, map}
 use lib.IntN.{ℤ}
 use lib.Dec.{eqb, ltb}
-use borrow.Author.Tests.{eq-eqb, eqb_false, eqb-true, ne_eqb}
+use borrow.Author.Tests.{eq-eqb, eqb-false, eqb-true, ne_eqb}
 use Rattle.ledger.specs.Call.{Answer, Found, Op, Why, code, counted, first_yes, found, number, numbered, refuses, zeroed}
 use Rattle.ledger.specs.Call.Call.{op}
 use Rattle.ledger.specs.Call.Found.{all, nothing, waits}
@@ -287,7 +287,7 @@ module _ (o : Op) where
   pub step_counts : (k : Caps) (s : State) (l : Ledger) → Good k s → Agrees k l s → number (step o k s).ans ≡ 0 → counted (step o k s).ans ≡ (page o).counts l
   step_counts k s l g a =
       step-all k s (λ x. number (say (entry o).shape x.ans) ≡ 0 → counted (say (entry o).shape x.ans) ≡ (page o).counts l)
-      (λ y e. ⊎_elim (λ h. absurd (eqb_false (code y) 0 (why_found y all) (sym (h (code y)) ∙ e))) (λ h. h.bare (refusal (entry o).shape (code y)) l) (proved o).speaks)
+      (λ y e. ⊎_elim (λ h. absurd (eqb-false (code y) 0 (why_found y all) (sym (h (code y)) ∙ e))) (λ h. h.bare (refusal (entry o).shape (code y)) l) (proved o).speaks)
       (λ p e. (proved o).counts k s l g a p)
 
   -- it lowers no age, of whatever pool
@@ -319,7 +319,7 @@ module _ (o : Op) where
   pub step-seven : (k : Caps) (s : State) → number (step o k s).ans ≡ 7 → ⊥
   step-seven k s =
       step-all k s (λ x. number (say (entry o).shape x.ans) ≡ 7 → ⊥)
-      (λ y e. ⊎_elim (λ h. eqb_false (code y) 7 (why_refuses y).1 (sym (h (code y)) ∙ e))
+      (λ y e. ⊎_elim (λ h. eqb-false (code y) 7 (why_refuses y).1 (sym (h (code y)) ∙ e))
       (λ h. omega (arith, sym (h.mute (refusal (entry o).shape (code y))).1 ∙ e)) (proved o).speaks)
       (λ p e. true_false (refuses (number (say (entry o).shape ((entry o).work k s).ans))) (ap refuses e) (work_done k s))
 

@@ -1,4 +1,5 @@
 // The answers of the host calls. The rules of the calls, and what a sound runtime is, are definitions: see specs/.
+#![tactic(auto)]
 
 pub mod states;
 

@@ -5,9 +5,9 @@ use native.Mathlib.Omega.{arith}
 use mathlib.Core.Path.{◌≡◌, refl, sym, ap, ◌∙◌, fun_ext}
 use mathlib.Core.List.{List, [], ◌∷◌, ◌++◌, append_assoc}
 use lib.ListN.{length, get_or, take, drop, replicate, length-replicate, replicate-append-replicate, get_or-eq_default}
-use lib.Seq.{sets, sets_eq, take_at, drop_at, length-sets, drop-drop}
+use lib.Seq.{sets, sets-eq, take_at, drop_at, length-sets, drop-drop}
 use lib.Dec.{eqb, ltb}
-use borrow.Author.Tests.{ne_eqb, lt-ltb, le-ltb, ltb-true, ltb-false, eqb-true, eqb_false}
+use borrow.Author.Tests.{ne_eqb, lt-ltb, le-ltb, ltb-true, ltb-false, eqb-true, eqb-false}
 use Rattle.pools.proofs.BoolLaws.{split}
 use Rattle.tables.specs.declared.Caps.{Caps}
 use Rattle.tables.specs.Columns.{PAST, PAYLOAD, REST}
@@ -41,7 +41,7 @@ zeros_front : (w : List ℕ) (n : ℕ) → n ≤ length w → sets w 0 (zeros n)
 zeros_front w n h =
     let e : length (zeros n) ≡ n = length-replicate n 0 in
     let f : 0 + length (zeros n) ≡ n = omega (arith, e) in
-    sets_eq (zeros n) w 0 (omega (arith, e)) ∙ ap (λ (m : ℕ). zeros n ++ drop m w) f
+    sets-eq (zeros n) w 0 (omega (arith, e)) ∙ ap (λ (m : ℕ). zeros n ++ drop m w) f
 
 zeros_rest : (w : List ℕ) (n : ℕ) → n ≤ length w → drop n (sets w 0 (zeros n)) ≡ drop n w
 zeros_rest w n h = rw (zeros_front w n h) (drop_at (zeros n) (drop n w) n (length-replicate n 0))
@@ -57,12 +57,12 @@ view-zeroed k w p r = fun_ext (λ c.
     (λ q. let l = ltb-false c REST q in
     split (eqb c REST)
     (λ e. rw (eqb-true c REST e) rest)
-    (λ e. let m = eqb_false c REST e in
+    (λ e. let m = eqb-false c REST e in
     split (eqb c PAYLOAD)
     (λ f. rw (eqb-true c PAYLOAD f) (ap (λ (x : List ℕ). cut (sizes_p k) x 0) (zeros_front p (needed_p k) r.bytes) ∙ payload))
     (λ f. split (eqb c PAST)
     (λ g. rw (eqb-true c PAST g) past)
-    (λ g. let n : suc PAST ≤ c = omega (arith, eqb_false c PAYLOAD f, eqb_false c PAST g) in
+    (λ g. let n : suc PAST ≤ c = omega (arith, eqb-false c PAYLOAD f, eqb-false c PAST g) in
     rw (le-ltb c PAYLOAD (omega arith), e, f, g)
     (cut-past (sizes_p k) _ (c - PAYLOAD) (omega arith) ∙ ap (λ (n : ℕ). zeros n) (sym (get_or-eq_default (sizes k) 0 l))))))))
   where

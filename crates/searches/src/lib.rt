@@ -1,5 +1,7 @@
 // The searches of the free bits in two forms with one promise each: bit by bit, as they once were, and word by word, as the library has them.
 // Nothing stands on them: ./speed times them side by side.
+#![tactic(auto)]
+
 ghost use Rattle.std.specs.Prelude.{◌≡◌};
 ghost use Rattle.pools.specs.Pool.{lowest, count};
 ghost use Rattle.pools.specs.Bits.{free};

@@ -8,7 +8,7 @@ use mathlib.Core.List.{List}
 use lib.Dec.{eqb, leb}
 use lib.ListN.{length, get_or, set, take, drop}
 use lib.Seq.{get_or-set_same, get_or-set_other, get_or-take, get_or-drop}
-use borrow.Author.Tests.{eqb-true, eqb_false, eq-eqb, ne_eqb, le-leb}
+use borrow.Author.Tests.{eqb-true, eqb-false, eq-eqb, ne_eqb, le-leb}
 use Rattle.pools.proofs.BoolLaws.{split, and_right}
 use Rattle.tables.specs.Columns.{BUS-SEATS, BUSES, SEAT, STATE}
 use Rattle.tables.specs.Limits.{MOST-BUSES, MOST-SEATS}
@@ -69,7 +69,7 @@ module _ (list : List ℕ) {stamp : ℕ} {stamps : List ℕ} where
   stamped_more n l h = record {
     before = λ a. split (eqb word a)
         (λ t. let e : word ≡ a = eqb-true word a t in rw (← e, get_or-set_same stamps word stamp 0 l) (omega arith))
-        (λ t. let m : (word ≡ a → ⊥) = eqb_false word a t in rw (get_or-set_other stamps word a stamp 0 (λ e. m (sym e))) (h.before a));
+        (λ t. let m : (word ≡ a → ⊥) = eqb-false word a t in rw (get_or-set_other stamps word a stamp 0 (λ e. m (sym e))) (h.before a));
     new = λ a. step a ∙ ap (λ (x : Bool). x && not (eqb word a)) (h.new a) ∙ sym (all_more (λ m. test (differ (get_or list m 0) a)) n);
   }
     where
@@ -80,7 +80,7 @@ module _ (list : List ℕ) {stamp : ℕ} {stamps : List ℕ} where
       step : (a : ℕ) → not (eqb (get_or (set stamps word stamp) a 0) stamp) ≡ not (eqb (get_or stamps a 0) stamp) && not (eqb word a)
       step a = split (eqb word a)
           (λ t. let e : word ≡ a = eqb-true word a t in rw (← e, get_or-set_same stamps word stamp 0 l, eq-eqb stamp stamp refl, eq-eqb word word refl) (and_no (not (eqb (get_or stamps word 0) stamp))))
-          (λ t. let m : (word ≡ a → ⊥) = eqb_false word a t in rw (get_or-set_other stamps word a stamp 0 (λ e. m (sym e)), t) (and_yes (not (eqb (get_or stamps a 0) stamp))))
+          (λ t. let m : (word ≡ a → ⊥) = eqb-false word a t in rw (get_or-set_other stamps word a stamp 0 (λ e. m (sym e)), t) (and_yes (not (eqb (get_or stamps a 0) stamp))))
 
 -- ---- the seats of one bus
 module _ (row : List ℕ) (limit : ℕ) (list : List ℕ) where

@@ -4,7 +4,7 @@ use native.Mathlib.Omega.{arith}
 use mathlib.Core.Path.{◌≡◌, refl, sym}
 use mathlib.Core.Bool.{Bool, true, false, ◌&&◌, ◌||◌}
 use lib.Dec.{leb, eqb}
-use borrow.Author.Tests.{leb-true, le-leb, eqb-true, eqb_false, eq-eqb}
+use borrow.Author.Tests.{leb-true, le-leb, eqb-true, eqb-false, eq-eqb}
 use Rattle.pools.proofs.BoolLaws.{split, and_left, and_right, and_true}
 use Rattle.records.specs.Header.{class_of}
 use Rattle.records.specs.Records.{EXIT-BYTES, TICK-BYTES}
@@ -47,11 +47,11 @@ record-test h n l =
     sym (same_test (headed_rule h n) (x || y)
     (λ ((plain, notice), (_, (tick, exit))). split (eqb (class_of h) 0)
     (λ t. let z = eqb-true (class_of h) 0 t in absurd (omega (arith, (plain z).0, (plain z).1)))
-    (λ t. let ((least, most), (mark, tag)) = notice (eqb_false (class_of h) 0 t) in
+    (λ t. let ((least, most), (mark, tag)) = notice (eqb-false (class_of h) 0 t) in
     split (eqb (class_of h) 3)
     (λ u. let z = eqb-true (class_of h) 3 u in
     or-first x y (and_true (eqb h 939524096) (eqb n TICK-BYTES) (eq-eqb h 939524096 (omega (arith, mark, tag))) (eq-eqb n TICK-BYTES (tick z))))
-    (λ u. let d = eqb_false (class_of h) 3 u in let z : class_of h ≡ 4 = omega (arith, d, least, most) in
+    (λ u. let d = eqb-false (class_of h) 3 u in let z : class_of h ≡ 4 = omega (arith, d, least, most) in
     or_second x y (and_true (eqb h 1207959552) (eqb n EXIT-BYTES) (eq-eqb h 1207959552 (omega (arith, z, mark, tag))) (eq-eqb n EXIT-BYTES (exit z))))))
     (λ t. or_cases x y t
     (λ u. tick-holds h n (eqb-true h 939524096 (and_left (eqb h 939524096) (eqb n TICK-BYTES) u)) (eqb-true n TICK-BYTES (and_right (eqb h 939524096) (eqb n TICK-BYTES) u)))

@@ -13,7 +13,7 @@ use lib.Dec.{eqb, lit<, ltb}
 use lib.ListN.{length, get_or, set, take, drop, length-take, length-drop, take-append-drop}
 use lib.Pow.{pow_pos, high, shl_exact, mod-pow-add}
 use lib.Seq.{take-suc, take_all, take-add, drop-drop, get_or-take, get_or-drop}
-use borrow.Author.Tests.{eqb-true, eqb_false, eq-eqb, ltb-false, ltb-true, ne_eqb, not-true, not-false}
+use borrow.Author.Tests.{eqb-true, eqb-false, eq-eqb, ltb-false, ltb-true, ne_eqb, not-true, not-false}
 use Rattle.pools.specs.Bits.{WORD-BITS, bit, free, released}
 use Rattle.pools.specs.Pool.{occurs}
 use Rattle.pools.proofs.MaskLaws.{and-bit, or-mark}
@@ -74,7 +74,7 @@ added_one seen x h = record {
       (λ q. let z : x ≡ e = eqb-true x e q in
       let f : free seen x ≡ false = not-true (free seen x) t in
       rw (q, ← z, released-same seen x h, f))
-      (λ q. rw (q, released-other seen x e (λ z. eqb_false x e q (sym z))) (omega arith));
+      (λ q. rw (q, released-other seen x e (λ z. eqb-false x e q (sym z))) (omega arith));
   twice = λ f. (x, let y : free seen x ≡ true = not-false (free seen x) f in rw (y, eq-eqb x x refl) (omega arith));
 }
 

@@ -7,7 +7,7 @@ use mathlib.Core.Bool.{Bool, true, false, not, ◌&&◌, ◌||◌}
 use mathlib.Core.List.{List}
 use lib.ListN.{length, get_or, replicate, length-replicate}
 use lib.Dec.{eqb}
-use borrow.Author.Tests.{eqb-true, eqb_false, eq-eqb, ne_eqb}
+use borrow.Author.Tests.{eqb-true, eqb-false, eq-eqb, ne_eqb}
 use Rattle.pools.specs.Bits.{WORD-BITS, free, released}
 use Rattle.pools.specs.Slot.{id_of}
 use Rattle.pools.proofs.BoolLaws.{split, and_left, and_right, and_true, same_bool}
@@ -43,7 +43,7 @@ mark : (w : List ℕ) (x i : ℕ) → x / WORD-BITS < length w → free (release
 mark w x i h =
     split (eqb i x)
     (λ t. rw (t, eqb-true i x t) (released-same w x h))
-    (λ t. rw t (released-other w x i (eqb_false i x t)))
+    (λ t. rw t (released-other w x i (eqb-false i x t)))
 
 -- the place of two slots in the square is theirs alone
 place-only : {side : ℕ} (a b one two : ℕ) → a < side → b < side → (1 ≤ one) × (one ≤ side) → (1 ≤ two) × (two ≤ side) →

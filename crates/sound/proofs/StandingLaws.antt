@@ -10,7 +10,7 @@ use mir.Val.{bool_byte}
 use lib.ListN.{length, get_or, set, replicate, length-replicate, get_or-replicate, get_or-eq_default}
 use lib.Seq.{get_or-set_same, get_or-set_other}
 use lib.Dec.{eqb, leb}
-use borrow.Author.Tests.{eqb-true, eqb_false, ne_eqb, le-leb, leb-true}
+use borrow.Author.Tests.{eqb-true, eqb-false, ne_eqb, le-leb, leb-true}
 use Rattle.pools.proofs.BoolLaws.{split, and_left, flag≤, true_false}
 use Rattle.rules.specs.Terms.{WAITS, alive}
 use Rattle.sound.specs.Standing.{Clear, Spans, Standing, standing_of, lives_in, waits_in_of}
@@ -41,7 +41,7 @@ stood-more {states} i {row} l h = let v = standing_of (get_or states i 0) in rec
   done = λ a m. split (eqb a i)
       (λ t. let e : a ≡ i = eqb-true a i t in
       rw (e, ← add-one i) (get_or-set_same row (i + 1) v 0 l))
-      (λ t. let n : (a ≡ i → ⊥) = eqb_false a i t in
+      (λ t. let n : (a ≡ i → ⊥) = eqb-false a i t in
       get_or-set_other row (i + 1) (suc a) v 0 (λ e. n (omega arith)) ∙ h.done a (elim (dec_lt a i) [ yes q ↦ q | no q ↦ absurd (n (omega arith)) ]));
   rest = λ a m. get_or-set_other row (i + 1) (suc a) v 0 (λ e. omega arith) ∙ h.rest a (omega arith);
 }

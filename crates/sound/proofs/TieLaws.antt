@@ -7,7 +7,7 @@ use mathlib.Core.List.{List}
 use lib.ListN.{length, get_or}
 use lib.Bits.{bit_or}
 use lib.Dec.{eqb, leb}
-use borrow.Author.Tests.{eqb-true, eqb_false, eq-eqb, ne_eqb, le-leb}
+use borrow.Author.Tests.{eqb-true, eqb-false, eq-eqb, ne_eqb, le-leb}
 use Rattle.pools.proofs.BoolLaws.{split, true_false, and_left, and_right}
 use Rattle.rules.specs.Rule.{test, each, both, imp, is, le, eq}
 use Rattle.rules.specs.Sound.{interval_rule, link_rule, pair_rule, monitor_rule, timer_rule}
@@ -56,7 +56,7 @@ module _ {side : ℕ} {row : List ℕ} (w : Spans (suc side) row) where
       split (eqb one 0)
       (λ t. let z : one ≡ 0 = eqb-true one 0 t in let s = q.none z in
       (s.0 ∙ rw (rule_none ones twos i z) (and_true' (test (link_in row one two))), λ k. rw s.1 (marked_none ones twos i m z)))
-      (λ t. let n : (one ≡ 0 → ⊥) = eqb_false one 0 t in
+      (λ t. let n : (one ≡ 0 → ⊥) = eqb-false one 0 t in
       split (test (ends_in row one two))
       (λ g. let s = q.good n g in let b = ends_inside one two g in
       (rw (← link_used row one two n, g) (s.new ∙ rule_more ones twos i m b.0 b.1), λ k. rw s.marks (marked_more ones twos i m b.0 b.1)))

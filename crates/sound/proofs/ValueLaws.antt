@@ -11,7 +11,7 @@ use lib.Dec.{eqb, leb, ltb}
 use lib.ListN.{length, get_or, set, replicate, take, drop, length-set, length-take, length-replicate, get_or-replicate}
 use lib.Pow.{shr_lt}
 use lib.Seq.{get_or-set_same, get_or-set_other, get_or-take, get_or-drop, take_all}
-use borrow.Author.Tests.{eqb-true, eqb_false, eq-eqb, ltb-false, ltb-true, ne_eqb, not-true}
+use borrow.Author.Tests.{eqb-true, eqb-false, eq-eqb, ltb-false, ltb-true, ne_eqb, not-true}
 use Rattle.pools.specs.Bits.{WORD-BITS, bit, free}
 use Rattle.pools.specs.Pool.{occurs}
 use Rattle.pools.proofs.BitLaws.{bit_none}
@@ -106,7 +106,7 @@ empties-more seats n mask {masks} l h m = record {
   bits = λ b q i j. split (eqb b n)
       (λ t. let e : b ≡ n = eqb-true b n t in
       rw (e, get_or-set_same masks n mask 0 (omega (arith, h.long))) (m i j ∙ ap (λ (x : ℕ). bool_byte (eqb x 0)) (get_or-take MOST-SEATS (drop (MOST-SEATS * n) seats) i 0 j ∙ get_or-drop (MOST-SEATS * n) seats i 0)))
-      (λ t. let d : b ≡ n → ⊥ = eqb_false b n t in
+      (λ t. let d : b ≡ n → ⊥ = eqb-false b n t in
       rw (get_or-set_other masks n b mask 0 d) (h.bits b (elim (dec_lt b n) [ yes p ↦ p | no p ↦ absurd (d (omega arith)) ]) i j));
 }
 
@@ -142,7 +142,7 @@ module _ (s : State) {masks : List ℕ} {made : ℕ} (m : Empties (s SEAT) made 
       split (eqb (at s VALUE-BUS d) 0)
       (λ t. let y = eqb-true (at s VALUE-BUS d) 0 t in let (unnamed, words) = none y in
       ((λ y. words, λ n. absurd (n y)), rw (t, not-true (free seen d) unnamed)))
-      (λ t. let n = eqb_false (at s VALUE-BUS d) 0 t in let (named, ((within, when), who)) = some n in (
+      (λ t. let n = eqb-false (at s VALUE-BUS d) 0 t in let (named, ((within, when), who)) = some n in (
         (
           λ y. absurd (n y),
           λ n. (
@@ -177,7 +177,7 @@ count-one counts bus i l e m = let v = get_or counts i 0 + 1 in record {
   long = length-set counts i v ∙ l;
   of = λ b q. split (eqb b i)
       (λ t. let y : b ≡ i = eqb-true b i t in rw (y, get_or-set_same counts i v 0 (omega (arith, l)), eq-eqb bus (suc i) e))
-      (λ t. let d : b ≡ i → ⊥ = eqb_false b i t in rw (get_or-set_other counts i b v 0 d, ne_eqb bus (suc b) (λ y. d (omega arith))) (omega arith));
+      (λ t. let d : b ≡ i → ⊥ = eqb-false b i t in rw (get_or-set_other counts i b v 0 d, ne_eqb bus (suc b) (λ y. d (omega arith))) (omega arith));
 }
 
 -- one word more

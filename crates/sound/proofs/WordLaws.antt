@@ -10,7 +10,7 @@ use lib.ListN.{get_or}
 use lib.Bits.{bit_and, and_shr, and_mod, and_le_l, and_zero_l, and_zero_r, and_self}
 use lib.Dec.{eqb}
 use lib.Pow.{shr-shr}
-use borrow.Author.Tests.{eqb-true, eqb_false, eq-eqb, not-true}
+use borrow.Author.Tests.{eqb-true, eqb-false, eq-eqb, not-true}
 use Rattle.pools.specs.Bits.{bit, free}
 use Rattle.pools.proofs.BitLaws.{bit-zero, bit_suc, bit_none, bit_cases}
 use Rattle.rules.specs.Rule.{all, test}
@@ -43,7 +43,7 @@ none_past x lo b q h = zero_bits 64 (x / 2 ^ lo) q (λ j m. bit-after x lo j ∙
 
 -- a bit that is not 1
 pub bit-clear : (x i : ℕ) → not (eqb (bit x i) 1) ≡ true → bit x i ≡ 0
-bit-clear x i t = let n : bit x i ≡ 1 → ⊥ = eqb_false (bit x i) 1 (not-true (eqb (bit x i) 1) t) in omega arith
+bit-clear x i t = let n : bit x i ≡ 1 → ⊥ = eqb-false (bit x i) 1 (not-true (eqb (bit x i) 1) t) in omega arith
 
 -- ---- two words that have no bit in common
 -- a bit of what two words have in common

@@ -1,4 +1,6 @@
 // Do two lent buffers hold a sound runtime?
+#![tactic(auto)]
+
 ghost use Rattle.std.specs.Prelude.{◌≡◌, ◌≤◌};
 ghost use Rattle.rules.specs.Rule.{both, test, Holds};
 ghost use Rattle.rules.specs.Sound.{range_rule, size_rule, fit_rule, caps_rule, head_rule, plain_rules, across_rules, sound_at, sound_rule};

@@ -8,7 +8,7 @@ use mathlib.Core.List.{List, [], ◌∷◌, ◌++◌}
 use lib.ListN.{length, get_or, set, take, drop, replicate, length-drop, length-replicate}
 use lib.Seq.{length-take-le, take_at, drop_at, take-suc-set, get_or-set_same, get_or-set_other, get_or-drop, sets}
 use lib.Dec.{eqb}
-use borrow.Author.Tests.{eqb_false, eq-eqb, ne_eqb}
+use borrow.Author.Tests.{eqb-false, eq-eqb, ne_eqb}
 use Rattle.pools.specs.Lists.{without}
 use Rattle.pools.proofs.BoolLaws.{split}
 use Rattle.pools.proofs.ListLaws.{length_without}
@@ -48,7 +48,7 @@ module _ (s : State) (c : ℕ) where
 
 -- numbers that differ differ the other way round
 differ : (a b : ℕ) → eqb a b ≡ false → eqb b a ≡ false
-differ a b e = ne_eqb b a (λ q. eqb_false a b e (sym q))
+differ a b e = ne_eqb b a (λ q. eqb-false a b e (sym q))
 
 -- ---- a list and its count
 module _ (s : State) (list count : ℕ) (apart : eqb list count ≡ false) where

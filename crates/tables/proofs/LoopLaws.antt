@@ -6,7 +6,7 @@ use native.Mathlib.Omega.{arith}
 use mathlib.Core.Path.{◌≡◌, refl, sym, ap, ◌∙◌}
 use mathlib.Core.List.{List, [], ◌∷◌, ◌++◌, append-nil}
 use lib.ListN.{length, get_or, set, take, drop, replicate, length-append, length-set, length-take, length-drop, take-append-drop, drop_of_length-le, length-replicate, replicate-append-replicate}
-use lib.Seq.{length-take-le, take_all, take-length, drop-length, take-suc, drop-cons, append_snoc, get_or-append-add, get_or-set_same, get_or-set_other, take-set-lt, drop-set-add, get_or-take, get_or-drop, ext_get_or, set_at, take_at, sets, length-sets, sets_eq, paste, paste-suc}
+use lib.Seq.{length-take-le, take_all, take-length, drop-length, take-suc, drop-cons, append_snoc, get_or-append-add, get_or-set_same, get_or-set_other, take-set-lt, drop-set-add, get_or-take, get_or-drop, ext_get_or, set_at, take_at, sets, length-sets, sets-eq, paste, paste-suc}
 use Rattle.pools.specs.Lists.{without}
 use Rattle.pools.proofs.ListLaws.{length_without}
 use Rattle.tables.specs.Action.{closed}
@@ -14,7 +14,7 @@ use Rattle.tables.specs.Action.{closed}
 -- ---- stores one after the other
 -- they are a list written over a part
 pub sets_paste : (l : List ℕ) (i : ℕ) (m : List ℕ) → i + length m ≤ length l → sets l i m ≡ paste l i m (length m)
-sets_paste l i m h = rw (take-length m) (sets_eq m l i h)
+sets_paste l i m h = rw (take-length m) (sets-eq m l i h)
 
 -- two lists stored end to end
 pub sets_append : (l : List ℕ) (i : ℕ) (m n : List ℕ) → sets l i (m ++ n) ≡ sets (sets l i m) (i + length m) n
@@ -36,7 +36,7 @@ sets_same l i (x ∷ m) (suc j) h g =
 
 -- stored over a whole list they are the list
 pub sets_all : (l m : List ℕ) → length m ≡ length l → sets l 0 m ≡ m
-sets_all l m h = sets_eq m l 0 (omega arith) ∙ rw (drop_of_length-le l {i = 0 + length m} (omega arith)) (append-nil m)
+sets_all l m h = sets-eq m l 0 (omega arith) ∙ rw (drop_of_length-le l {i = 0 + length m} (omega arith)) (append-nil m)
 
 -- among the N words from the A-th on, seen there
 pub sets_within : (l : List ℕ) (A N i : ℕ) (m : List ℕ) → i + length m ≤ N → take N (drop A (sets l (A + i) m)) ≡ sets (take N (drop A l)) i m
@@ -59,7 +59,7 @@ sets_apart l A N i m h =
 pub sets_zeros : (N : ℕ) (m : List ℕ) → length m ≤ N → sets (replicate N 0) 0 m ≡ m ++ replicate (N - length m) 0
 sets_zeros N m h =
     let e : length (replicate {A = ℕ} N 0) ≡ N = length-replicate N 0 in
-    sets_eq m (replicate N 0) 0 (omega arith) ∙ rw (zero-add (length m)) (ap (λ (r : List ℕ). m ++ r) (drop-zeros (length m) N))
+    sets-eq m (replicate N 0) 0 (omega arith) ∙ rw (zero-add (length m)) (ap (λ (r : List ℕ). m ++ r) (drop-zeros (length m) N))
   where
     -- zeros after the first n
     drop-zeros : (n N : ℕ) → drop n (replicate {A = ℕ} N 0) ≡ replicate (N - n) 0

@@ -8,7 +8,7 @@ use mathlib.Core.List.{List, [], ◌++◌, append_assoc, append-nil}
 use lib.ListN.{length, get_or, set, take, drop, replicate, length-replicate, length-set, length-take, drop_of_length-le, get_or-eq_default}
 use lib.Seq.{set_out, get_or-take, take_all, drop-drop, sets, length-sets, paste, length-paste}
 use lib.Dec.{eqb, ltb}
-use borrow.Author.Tests.{eqb-true, eqb_false, ne_eqb, ltb-true, ltb-false, lt-ltb, le-ltb}
+use borrow.Author.Tests.{eqb-true, eqb-false, ne_eqb, ltb-true, ltb-false, lt-ltb, le-ltb}
 use Rattle.pools.proofs.BoolLaws.{split}
 use Rattle.pools.proofs.ListLaws.{part-take}
 use Rattle.tables.specs.Limits.{ENTRY-BYTES, WORDS-MOST}
@@ -144,7 +144,7 @@ module _ (k : Caps) (w p : List ℕ) (r : Room k w p) (l : List ℕ) where
       (λ q. let e : eqb d PAYLOAD ≡ false = ne_eqb d PAYLOAD (λ z. omega (arith, ltb-true d PAYLOAD q)) in rw (q, e))
       (λ q. split (eqb d PAYLOAD)
       (λ e. rw (q, e, eqb-true d PAYLOAD e) (take_pasted p l i n (ENTRY-BYTES * k.datas) h r.bytes g))
-      (λ e. let z : d - PAYLOAD ≡ suc (d - PAST) = omega (arith, ltb-false d PAYLOAD q, eqb_false d PAYLOAD e) in rw (q, e, z) (ap (λ x. cut [] x (d - PAST)) (drop_pasted p l i n (ENTRY-BYTES * k.datas) h r.bytes g)))))
+      (λ e. let z : d - PAYLOAD ≡ suc (d - PAST) = omega (arith, ltb-false d PAYLOAD q, eqb-false d PAYLOAD e) in rw (q, e, z) (ap (λ x. cut [] x (d - PAST)) (drop_pasted p l i n (ENTRY-BYTES * k.datas) h r.bytes g)))))
 
 -- a list written over a part leaves the room that there was
 pub room_paste : (k : Caps) (w p l : List ℕ) (m n : ℕ) → m + n ≤ length w → n ≤ length l → Room k w p → Room k (paste w m l n) p

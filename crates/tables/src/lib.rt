@@ -1,4 +1,6 @@
 // The tables of the runtime in two lent buffers: capacities, columns, and what the calls do to a column.
+#![tactic(auto)]
+
 pub mod columns;
 pub mod free;
 pub mod layout;

@@ -1,4 +1,6 @@
 // What a trace tells, in words.
+#![tactic(auto)]
+
 pub mod aimed;
 pub mod buses;
 pub mod ends;

@@ -6,7 +6,7 @@ use mathlib.Core.List.{List, [], ◌∷◌, ◌++◌, append_assoc, append-nil}
 use native.Mathlib.Omega.{arith}
 use lib.ListN.{length, take, drop, length-drop, take-append-drop}
 use lib.Dec.{eqb}
-use borrow.Author.Tests.{eqb-true, eqb_false, eq-eqb}
+use borrow.Author.Tests.{eqb-true, eqb-false, eq-eqb}
 use Rattle.ledger.specs.Call.Answer.{plain}
 use Rattle.ledger.specs.Call.Call.{start, op}
 use Rattle.pools.proofs.BoolLaws.{and_left, and_right, split}
@@ -138,7 +138,7 @@ no_more A i b bs h = subst (Read A i b bs) (sym (from_none i b bs h)) (halts A i
 one-read : (A : Type 0) (i : ℕ) (b : Stand) (bs : List ℕ) → (A → Bytes bs) → ((t : Stand) → Read A (suc i) t (drop (extent_of bs) bs) (verdict_from (suc i) t (drop (extent_of bs) bs))) → Read A i b bs (verdict_from i b bs)
 one-read A i b bs a f =
     split (eqb (length bs) 0) (λ q. no_more A i b bs (eqb-true (length bs) 0 q))
-    (λ q. let u = eqb_false (length bs) 0 q in
+    (λ q. let u = eqb-false (length bs) 0 q in
     split (ends bs)
     (λ p. subst (Read A i b bs) (sym (from_cut i b bs u p)) (halts A i b bs (cut i) (Ending.inside u p)))
     (λ p. subst (Read A i b bs) (sym (from_next i b bs u p)) (next A i b bs u p a (judged b (take (extent_of bs) bs)) refl f)))

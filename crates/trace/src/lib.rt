@@ -1,4 +1,6 @@
 // Traces: the writer of a record, the record of each call, and the comparison with one.
+#![tactic(auto)]
+
 pub mod kinds;
 pub mod numbers;
 pub mod writer;

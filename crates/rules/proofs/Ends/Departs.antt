@@ -6,7 +6,7 @@ use mathlib.Core.Bool.{true, false, cond}
 use mathlib.Core.List.{List, [], ◌∷◌, ◌++◌}
 use lib.ListN.{get_or}
 use lib.Dec.{eqb, lit<}
-use borrow.Author.Tests.{eqb-true, eqb_false, eq-eqb, le-ltb, ne_eqb}
+use borrow.Author.Tests.{eqb-true, eqb-false, eq-eqb, le-ltb, ne_eqb}
 use Rattle.ledger.specs.Call.Op.{exit}
 use Rattle.ledger.specs.Ledger.{Ledger}
 use Rattle.ledger.specs.Reckon.{departed, entered, gone, losses, notices, parts, passed, sendings}
@@ -84,9 +84,9 @@ module _ (k : Caps) (s u : State) (l : Ledger) (a : ℕ) (g : Good k s) (r : Agr
       (λ q. let z : runner u ≡ runner s = v.runs ∙ rw q in
       rw (z, c) (split (eqb (runner s) 0)
       (λ n. let i : l.people.running ≡ 0 = r.people.running ∙ rw n in
-      rw (n, i, ne_eqb 0 (actor_id s a) (λ e. eqb_false (actor_id s a) 0 (id_not_zero k s g a there) (sym e))))
+      rw (n, i, ne_eqb 0 (actor_id s a) (λ e. eqb-false (actor_id s a) 0 (id_not_zero k s g a there) (sym e))))
       (λ n. let i : l.people.running ≡ runner_id s = r.people.running ∙ rw n in
-      let d : eqb (runner s - 1) a ≡ false = ne_eqb (runner s - 1) a (λ e. eqb_false (runner s) (suc a) q (omega (arith, eqb_false (runner s) 0 n))) in
+      let d : eqb (runner s - 1) a ≡ false = ne_eqb (runner s - 1) a (λ e. eqb-false (runner s) (suc a) q (omega (arith, eqb-false (runner s) 0 n))) in
       rw (n, i, actor_id-eqb k s g (runner s - 1) a (runner-alive k s g n) there ∙ d))))
 
   -- THE LAW of the slot: the reckoning has the actor no more

@@ -8,7 +8,7 @@ use mir.Val.{bool_byte}
 use lib.ListN.{length, get_or, set, take}
 use lib.Seq.{get_or-set_same, get_or-set_other, get_or-take, length-take-le}
 use lib.Dec.{eqb, ltb, lit<}
-use borrow.Author.Tests.{eqb-true, eqb_false, eq-eqb, ne_eqb, ltb-true, ltb-false}
+use borrow.Author.Tests.{eqb-true, eqb-false, eq-eqb, ne_eqb, ltb-true, ltb-false}
 use Rattle.pools.specs.Pool.{occurs}
 use Rattle.pools.proofs.BoolLaws.{split, true_false, flag_eq}
 use Rattle.pools.proofs.ListLaws.{occurs-place}
@@ -121,7 +121,7 @@ module _ (k : Caps) (s : State) (a : ℕ) (g : Good k s) (there : alive (s STATE
     wrote = wrote_within LEFT (wrote_poke (wrote_poke (wrote_unwait (wrote_none s) a) STATE a FREE) PRIORITY a 0) refl;
     state = refl;
     level = put (g.sized.words PRIORITY (lit< tt));
-    reason = zero_was ((g.unused_words a slot).1.0 (eqb_false (at s STATE a) RUNNABLE n));
+    reason = zero_was ((g.unused_words a slot).1.0 (eqb-false (at s STATE a) RUNNABLE n));
     wants = let z = g.sized.words in (put (z WANT-SENDER (lit< tt)), put (z WANT-CLASS (lit< tt)), put (z WANT-TAG (lit< tt)), put (z DEADLINE (lit< tt)));
     runs = rw r;
     queued = omega arith;
@@ -216,7 +216,7 @@ vacated_keeps k s u a g bare v =
     Part.runs by (λ b h. each_set (λ b. b < k.actors → bool_byte (eqb (at u STATE b) RUNS) ≡ bool_byte (eqb (runner u) (suc b))) a b
     (λ h. rw (zero, v.runs) (split (eqb (runner s) (suc a)) (λ q. rw (q, ne_eqb 0 (suc a) (λ e. omega arith))) (λ q. rw (q, q))))
     (λ q h. rw (else b q, v.runs) (split (eqb (runner s) (suc a))
-    (λ r. rw (r, ne_eqb 0 (suc b) (λ e. omega arith)) (g.runs b h ∙ rw (ne_eqb (runner s) (suc b) (λ e. eqb_false b a q (omega (arith, eqb-true (runner s) (suc a) r))))))
+    (λ r. rw (r, ne_eqb 0 (suc b) (λ e. omega arith)) (g.runs b h ∙ rw (ne_eqb (runner s) (suc b) (λ e. eqb-false b a q (omega (arith, eqb-true (runner s) (suc a) r))))))
     (λ r. rw r (g.runs b h)))) h) also
     Part.queue by v.queue also
     Part.once by v.once also

@@ -6,7 +6,7 @@ use mathlib.Core.Bool.{Bool, true, false, cond, not, ◌&&◌, ◌||◌}
 use mathlib.Core.List.{List, [], ◌∷◌, ◌++◌, append_assoc}
 use lib.ListN.{length, get_or, length-append}
 use lib.Dec.{eqb}
-use borrow.Author.Tests.{eq-eqb, eqb_false, eqb-true, ne_eqb, not-true}
+use borrow.Author.Tests.{eq-eqb, eqb-false, eqb-true, ne_eqb, not-true}
 use Rattle.ledger.specs.Ledger.{Ledger, Message}
 use Rattle.ledger.specs.Reckon.{Part, mailed, noted, passed}
 use Rattle.pools.specs.Slot.{id_of}
@@ -44,7 +44,7 @@ gone_of c a l n h = record { is = λ e. rw n (ne_eqb (get_or l e 0) (suc a) (h e
 
 -- and the other way
 pub of-gone : (c a : ℕ) (l : List ℕ) → mem c SLOTTED ≡ false → Gone c a l → (e : ℕ) → get_or l e 0 ≡ suc a → ⊥
-of-gone c a l n g e = eqb_false (get_or l e 0) (suc a) (rw n at (g.is e))
+of-gone c a l n g e = eqb-false (get_or l e 0) (suc a) (rw n at (g.is e))
 
 -- of a column with a word for each slot: its own word is 0
 pub zero_of : (c a : ℕ) (l : List ℕ) → mem c SLOTTED ≡ true → get_or l a 0 ≡ 0 → Gone c a l

@@ -8,7 +8,7 @@ use mathlib.Core.List.{List, [], ◌∷◌}
 use lib.ListN.{length, get_or, set}
 use lib.Seq.{get_or-set_same, get_or-set_other, set_out}
 use lib.Dec.{eqb, ltb}
-use borrow.Author.Tests.{eqb-true, eqb_false, not-true}
+use borrow.Author.Tests.{eqb-true, eqb-false, not-true}
 use Rattle.ledger.specs.Call.{Op}
 use Rattle.ledger.specs.Call.Op.{after, every, monitor, spawn}
 use Rattle.pools.specs.Slot.{aged}
@@ -37,7 +37,7 @@ aged-le l i a =
       | yes h ↦ rw (e, get_or-set_same l i (get_or l i 0 + 1) 0 h) (omega arith)
       | no h ↦ rw (set_out l i (get_or l i 0 + 1) (omega arith)) (omega arith)
     ])
-    (λ q. rw (get_or-set_other l i a (get_or l i 0 + 1) 0 (eqb_false a i q)) (omega arith))
+    (λ q. rw (get_or-set_other l i a (get_or l i 0 + 1) 0 (eqb-false a i q)) (omega arith))
 
 -- ---- no age falls
 -- in a column that is not written

@@ -2,12 +2,12 @@
 use Prim.Native.Nat.{ℕ, zero, suc, ◌+◌, ◌<◌}
 use native.Mathlib.Omega.{arith}
 use mathlib.Core.Path.{◌≡◌, refl, sym, ap, ◌∙◌}
-use mathlib.Core.Bool.{or_false, Bool, true, false, cond, not, ◌||◌, or_true}
+use mathlib.Core.Bool.{or-false, Bool, true, false, cond, not, ◌||◌, or-true}
 use mathlib.Core.List.{List, [], ◌∷◌}
 use lib.ListN.{length, get_or, set}
 use lib.Seq.{get_or-set_same}
 use lib.Dec.{eqb}
-use borrow.Author.Tests.{eqb-true, eqb_false, eq-eqb, lt-ltb, le-ltb, not-false}
+use borrow.Author.Tests.{eqb-true, eqb-false, eq-eqb, lt-ltb, le-ltb, not-false}
 use Rattle.pools.specs.Slot.{slot_of, aged}
 use Rattle.pools.proofs.BoolLaws.{split, true_false, neither, and_left}
 use Rattle.pools.proofs.PoolLaws.{lowest-at}
@@ -54,7 +54,7 @@ module _ (i : ℕ) where
   zeros_here [] s c m = true_false false m refl
   zeros_here (d ∷ cs) s c m =
       split (mem c cs) (zeros_here cs (poke s d i 0) c) (λ q.
-      let r : c ≡ d = eqb-true c d (sym (or_false (eqb c d)) ∙ (rw q at m)) in
+      let r : c ≡ d = eqb-true c d (sym (or-false (eqb c d)) ∙ (rw q at m)) in
       ap (λ (l : List ℕ). get_or l i 0) ((wrote_filled cs (no_words cs) (poke s d i 0)).cols c q ∙ ap (poke s d i 0) r ∙ poke-same s d i 0) ∙ set-zero (s d) i)
 
 -- ---- A USE OF SLOT i BEGINS, with word v: it is one older, and no other slot changed
@@ -81,12 +81,12 @@ use_begins P s i v vs x y =
 zero-all : (s : State) (i : ℕ) (cs : List ℕ) → ((c : ℕ) → mem c cs ≡ true → at s c i ≡ 0) → Holds (zero_rule s i cs)
 zero-all s i [] h = refl
 zero-all s i (c ∷ []) h = h c (rw (eq-eqb c c refl))
-zero-all s i (c ∷ d ∷ cs) h = (h c (rw (eq-eqb c c refl)), zero-all s i (d ∷ cs) (λ b m. h b (rw m (or_true (eqb b c)))))
+zero-all s i (c ∷ d ∷ cs) h = (h c (rw (eq-eqb c c refl)), zero-all s i (d ∷ cs) (λ b m. h b (rw m (or-true (eqb b c)))))
 
 -- and the other way round
 zero-each : (s : State) (i : ℕ) (cs : List ℕ) → Holds (zero_rule s i cs) → (c : ℕ) → mem c cs ≡ true → at s c i ≡ 0
 zero-each s i [] h c m = true_false false m refl
-zero-each s i (d ∷ []) h c m = rw (eqb-true c d (sym (or_false (eqb c d)) ∙ m)) h
+zero-each s i (d ∷ []) h c m = rw (eqb-true c d (sym (or-false (eqb c d)) ∙ m)) h
 zero-each s i (d ∷ e ∷ cs) h c m = split (eqb c d) (λ q. rw (eqb-true c d q) h.0) (λ q. zero-each s i (e ∷ cs) h.1 c (rw q at m))
 
 -- ---- THE USES THAT PASS END: their columns are zero, ages apart, and nothing else changed
@@ -101,7 +101,7 @@ module _ (P : Aged) where
 
   -- and so are the others
   rest_in : (c : ℕ) → mem c P.rest ≡ true → mem c (P.word ∷ P.rest) ≡ true
-  rest_in c m = rw m (or_true (eqb c P.word))
+  rest_in c m = rw m (or-true (eqb c P.word))
 
   -- one ends
   pub use_ends : (s : State) (i : ℕ) → Ends P (λ e. eqb e i) s (end_use P s i)
@@ -138,7 +138,7 @@ module _ (P : Aged) where
         split (eqb (at u P.word n) (suc a))
         (λ q. rw q (ends_then s u (end_use P u n) (b n) (λ d. eqb d n) (b (suc n)) h (use_ends u n) (below_yes w (suc a) n (rw e at q))))
         (λ q. rw q (ends_then s u u (b n) (λ d. false) (b (suc n)) h (ends_none u (λ d. false) (λ d. refl))
-        (λ d. or_false (b n d) ∙ below_no w (suc a) n (rw e at q) d)))
+        (λ d. or-false (b n d) ∙ below_no w (suc a) n (rw e at q) d)))
 
     -- after it none of them is slot a's
     pub own_none : (n i : ℕ) → i < n → at (end_own P a n s) P.word i ≡ suc a → ⊥
@@ -146,7 +146,7 @@ module _ (P : Aged) where
         let o = (own_ends n).gone P.word word_in i in
         split (eqb (at s P.word i) (suc a))
         (λ q. let x : at (end_own P a n s) P.word i ≡ 0 = rw (lt-ltb i n l, q) at o in omega arith)
-        (λ q. let x : at (end_own P a n s) P.word i ≡ at s P.word i = rw (lt-ltb i n l, q) at o in eqb_false (at s P.word i) (suc a) q (sym x ∙ e))
+        (λ q. let x : at (end_own P a n s) P.word i ≡ at s P.word i = rw (lt-ltb i n l, q) at o in eqb-false (at s P.word i) (suc a) q (sym x ∙ e))
 
   -- ---- soundness: every slot is free, or in use as is asked of one in use
   module _ (used : State → ℕ → Rule) (s u : State) where

@@ -8,7 +8,7 @@ use mathlib.Core.List.{List, [], ◌∷◌, ◌++◌, append-nil}
 use lib.ListN.{length, get_or, take, drop}
 use lib.Seq.{get_or-take, take-append-add, take_at, take-take}
 use lib.Dec.{eqb, lit<, ltb}
-use borrow.Author.Tests.{eqb_false, eqb-true, ltb-false, ltb-true, ne_eqb}
+use borrow.Author.Tests.{eqb-false, eqb-true, ltb-false, ltb-true, ne_eqb}
 use Rattle.ledger.specs.Call.{Answer, Call, Op, Sizes}
 use Rattle.ledger.specs.Call.Answer.{plain}
 use Rattle.ledger.specs.Call.Call.{start, op}
@@ -90,7 +90,7 @@ module _ (k : Caps) (w p v q : List ℕ) (e : NeededSame k w p v q) where
       (λ l. let m = ltb-true c REST l in
       rw (view-word k v q c (omega arith), view-word k w p c (omega arith)) (cut-same (sizes k) w v (rw (needed-sum k) e.0) c m))
       (λ l. split (eqb c PAYLOAD) (λ d. rw (eqb-true c PAYLOAD d) area_same)
-      (λ d. let m : PAST < c = omega (arith, eqb_false c REST a, eqb_false c PAST b, ltb-false c REST l, eqb_false c PAYLOAD d) in view-past k v q c m ∙ sym (view-past k w p c m)))))))
+      (λ d. let m : PAST < c = omega (arith, eqb-false c REST a, eqb-false c PAST b, ltb-false c REST l, eqb-false c PAYLOAD d) in view-past k v q c m ∙ sym (view-past k w p c m)))))))
 
 -- the needed words and bytes of a state in its buffers are those of the state without what lies past
 join-needed : (k : Caps) (s : State) → Sized k s → (take (needed k) (join_w s) ≡ join_w (trim s)) × (take (needed_p k) (join_p s) ≡ join_p (trim s))

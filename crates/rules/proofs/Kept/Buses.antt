@@ -4,7 +4,7 @@ use native.Mathlib.Omega.{arith}
 use mathlib.Core.List.{List}
 use lib.ListN.{length}
 use lib.Dec.{ltb}
-use borrow.Author.Tests.{eqb_false, leb-false, ltb-false, ltb-true, not-false}
+use borrow.Author.Tests.{eqb-false, leb-false, ltb-false, ltb-true, not-false}
 use Rattle.pools.proofs.BoolLaws.{split}
 use Rattle.ledger.specs.Call.Op.{bus, publish, read, subscribe, unsubscribe}
 use Rattle.tables.specs.Columns.{BUSES, ISSUED}
@@ -41,7 +41,7 @@ subscribe_keeps b k s g p =
 pub unsubscribe_keeps : (b : ℕ) → Keeps (unsubscribe b)
 unsubscribe_keeps b k s g p =
     let there = not-false (sits s b (runner s)) (second_passed p) in
-    stand_up_keeps k s g b (seat_of s b (runner s)) (sits-bus s b (runner s) there k g (eqb_false (runner s) 0 p.0)) (sits_seat s b (runner s) there)
+    stand_up_keeps k s g b (seat_of s b (runner s)) (sits-bus s b (runner s) there k g (eqb-false (runner s) 0 p.0)) (sits_seat s b (runner s) there)
 
 -- a value is read, or there is nothing new
 pub read_keeps : (b room : ℕ) → Keeps (read b room)

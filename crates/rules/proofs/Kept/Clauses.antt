@@ -8,7 +8,7 @@ use mathlib.Core.List.{List}
 use lib.ListN.{get_or, set, get_or-eq_default}
 use lib.Seq.{get_or-set_same}
 use lib.Dec.{T, eqb, ltb, lit<}
-use borrow.Author.Tests.{eqb-true, eqb_false, ltb-true, ltb-false, not-true, not-false}
+use borrow.Author.Tests.{eqb-true, eqb-false, ltb-true, ltb-false, not-true, not-false}
 use Rattle.pools.specs.Bits.{free}
 use Rattle.pools.specs.Slot.{unused}
 use Rattle.pools.proofs.BoolLaws.{split}
@@ -129,7 +129,7 @@ module _ {k : Caps} {s : State} (g : Good k s) where
   -- ---- waitRule: a deadline is in range
   pub deadline_fits : (a : ℕ) → at s DEADLINE a ≤ DEADLINE-END
   deadline_fits =
-      used_word DEADLINE DEADLINE-END (omega arith) (λ a. eqb (at s DEADLINE a) 0) (λ a l q. eqb-true _ _ q) (λ a l q. ((g.waits a l).1.1 (eqb_false _ _ q)).1)
+      used_word DEADLINE DEADLINE-END (omega arith) (λ a. eqb (at s DEADLINE a) 0) (λ a l q. eqb-true _ _ q) (λ a l q. ((g.waits a l).1.1 (eqb-false _ _ q)).1)
 
   -- ---- listRule: who is queued has one of the slots
   pub queued_fits : (i : ℕ) → i < head s QUEUED → at s QUEUE i < k.actors
@@ -147,7 +147,7 @@ module _ {k : Caps} {s : State} (g : Good k s) where
   pub length-fits : (d : ℕ) → at s LENGTH d ≤ PAYLOAD-MOST
   length-fits =
       used_word LENGTH PAYLOAD-MOST (omega arith) (free (s DATA-FREE)) (λ d l q. ((g.datas d l).0 q).0.1)
-      (λ d l q. split (eqb (at s VALUE-BUS d) 0) (λ z. (((g.datas d l).1 (rw q)).0 (eqb-true _ _ z)).0.1.0) (λ z. (((g.datas d l).1 (rw q)).1 (eqb_false _ _ z)).1.0))
+      (λ d l q. split (eqb (at s VALUE-BUS d) 0) (λ z. (((g.datas d l).1 (rw q)).0 (eqb-true _ _ z)).0.1.0) (λ z. (((g.datas d l).1 (rw q)).1 (eqb-false _ _ z)).1.0))
 
   -- ---- link_rule
   pub link_ends : (e : ℕ) → e < k.links → (at s LINK-ONE e ≡ 0 → ⊥) → Ends (s STATE) (at s LINK-ONE e) (at s LINK-TWO e)
@@ -170,13 +170,13 @@ module _ {k : Caps} {s : State} (g : Good k s) where
   pub due-fits : (i : ℕ) → at s DUE i ≤ DUE-END
   due-fits =
       used_word DUE DUE-END (omega arith) (unused (s TIMER-OWNER))
-      (λ i l q. ((g.timers i l).1.0 (eqb-true _ _ q)).0) (λ i l q. ((g.timers i l).1.1 (eqb_false _ _ q)).1.0)
+      (λ i l q. ((g.timers i l).1.0 (eqb-true _ _ q)).0) (λ i l q. ((g.timers i l).1.1 (eqb-false _ _ q)).1.0)
 
   -- an interval is 0, a one-shot's, or in range
   pub interval_right : (i : ℕ) → Holds (interval_rule (at s INTERVAL i))
   interval_right =
       used_so (λ (x : ℕ). Holds (interval_rule x)) interval_none INTERVAL (omega arith) (unused (s TIMER-OWNER))
-      (λ i l q. ((g.timers i l).1.0 (eqb-true _ _ q)).1) (λ i l q. ((g.timers i l).1.1 (eqb_false _ _ q)).1.1)
+      (λ i l q. ((g.timers i l).1.0 (eqb-true _ _ q)).1) (λ i l q. ((g.timers i l).1.1 (eqb-false _ _ q)).1.1)
 
   pub interval_fits : (i : ℕ) → at s INTERVAL i ≤ LONGEST
   interval_fits i = (interval_right i).0
@@ -227,7 +227,7 @@ module _ {k : Caps} {s : State} (g : Good k s) where
   pub published-fits : (d : ℕ) → at s PUBLISHED d ≤ head s CLOCK
   published-fits =
       used_word PUBLISHED (head s CLOCK) (omega arith) (unused (s VALUE-BUS))
-      (λ d l q. ((g.values d l).0 (eqb-true _ _ q)).1) (λ d l q. ((g.values d l).1 (eqb_false _ _ q)).0.1)
+      (λ d l q. ((g.values d l).0 (eqb-true _ _ q)).1) (λ d l q. ((g.values d l).1 (eqb-false _ _ q)).0.1)
 
   -- ---- THE LAWS of other states: what asks that somebody lives is so there too, where those whom it names live
   module _ (states : List ℕ) where

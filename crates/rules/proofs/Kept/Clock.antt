@@ -8,7 +8,7 @@ use mathlib.Core.List.{List, [], ◌∷◌}
 use lib.ListN.{length, get_or, set}
 use lib.Seq.{get_or-set_same, get_or-set_other, set-set, set-get_or}
 use lib.Dec.{eqb, leb, lit<}
-use borrow.Author.Tests.{eqb-true, eqb_false, ne_eqb, leb-false, not-true}
+use borrow.Author.Tests.{eqb-true, eqb-false, ne_eqb, leb-false, not-true}
 use Rattle.ledger.specs.Ledger.{Ledger, time, with_time}
 use Rattle.pools.specs.Pool.{count}
 use Rattle.pools.proofs.BoolLaws.{split, and_left}
@@ -50,7 +50,7 @@ module _ (s : State) (c : ℕ) where
   pub clock_with : (d : ℕ) (l : List ℕ) → eqb d CLOCK ≡ false → with_col (at_clock s c) d l ≡ at_clock (with_col s d l) c
   unfolding at_clock poke with_col
   clock_with d l e =
-      let f : eqb CLOCK d ≡ false = ne_eqb CLOCK d (λ z. eqb_false d CLOCK e (sym z)) in
+      let f : eqb CLOCK d ≡ false = ne_eqb CLOCK d (λ z. eqb-false d CLOCK e (sym z)) in
       fun_ext (λ b. rw f (split (eqb b d)
       (λ p. let q : eqb b CLOCK ≡ false = rw (eqb-true b d p) e in rw (p, q))
       (λ p. rw p)))
@@ -151,7 +151,7 @@ module _ (k : Caps) (c : ℕ) (s : State) (h : Late k c s) where
       let next = next_beat (at s DUE i) (at s INTERVAL i) (head s CLOCK) in
       split (eqb (at s INTERVAL i) 0)
       (λ q. rw q (late_then (disarm s i) (rw (clock_disarm s c i) at (disarm_keeps k (at_clock s c) i g l)) ((use_ends timer_pool s i).wrote.cols CLOCK refl)))
-      (λ q. let e = beat_most (at s DUE i) (at s INTERVAL i) (head s CLOCK) (eqb_false (at s INTERVAL i) 0 q) come in
+      (λ q. let e = beat_most (at s DUE i) (at s INTERVAL i) (head s CLOCK) (eqb-false (at s INTERVAL i) 0 q) come in
       rw q (late_then (poke s DUE i next)
       (rw (clock_poke s c DUE i next refl) at (redue_keeps k (at_clock s c) i next g l o (omega (arith, e, w, h.ends))))
       ((wrote_poke (wrote_none s) DUE i next).cols CLOCK refl)))
@@ -160,7 +160,7 @@ module _ (k : Caps) (c : ℕ) (s : State) (h : Late k c s) where
   pub late_waits : (a : ℕ) → a < k.actors → (at s DEADLINE a ≡ 0 → ⊥) → at s STATE a ≡ WAITS
   late_waits a l d =
       let i = rw (clock_read s c STATE refl, clock_read s c DEADLINE refl) at (deadline_unused h.good a l) in
-      split (eqb (at s STATE a) WAITS) (λ q. eqb-true (at s STATE a) WAITS q) (λ q. absurd (d (i (eqb_false (at s STATE a) WAITS q))))
+      split (eqb (at s STATE a) WAITS) (λ q. eqb-true (at s STATE a) WAITS q) (λ q. absurd (d (i (eqb-false (at s STATE a) WAITS q))))
 
 -- "Advance adds 0 to 2^32 - 1": a sound state whose clock is raised was sound at the clock that it had
 pub clock_keeps : (k : Caps) (s : State) (micros : ℕ) → Good k s → head s CLOCK + micros ≤ CLOCK-END → Late k (head s CLOCK) (poke s CLOCK 0 (head s CLOCK + micros))
@@ -216,10 +216,10 @@ module _ (k : Caps) (s : State) where
   -- it is a slot with a deadline
   overdue-at : eqb (next_overdue k s) 0 ≡ false → (next_overdue k s - 1 < k.actors) × (overdue s (next_overdue k s - 1) ≡ true) × (at s DEADLINE (next_overdue k s - 1) ≡ 0 → ⊥)
   overdue-at q =
-      let n = eqb_false (next_overdue k s) 0 q in
+      let n = eqb-false (next_overdue k s) 0 q in
       let p = overdue-least.passes n in
       let b = next_overdue k s - 1 in
-      (omega (arith, overdue-least.within), p, eqb_false (at s DEADLINE b) 0 (not-true (eqb (at s DEADLINE b) 0) (and_left (not (eqb (at s DEADLINE b) 0)) (leb (at s DEADLINE b) (head s CLOCK)) p)))
+      (omega (arith, overdue-least.within), p, eqb-false (at s DEADLINE b) 0 (not-true (eqb (at s DEADLINE b) 0) (and_left (not (eqb (at s DEADLINE b) 0)) (leb (at s DEADLINE b) (head s CLOCK)) p)))
 
 module _ (k : Caps) (c : ℕ) where
   -- one fewer is overdue

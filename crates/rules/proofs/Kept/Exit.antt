@@ -3,13 +3,13 @@ use Prim.Native.Nat.{ℕ, zero, suc, ◌-◌, ◌≤◌, ◌<◌}
 use native.Mathlib.Omega.{arith}
 use mathlib.Core.Path.{◌≡◌, refl, sym, ap, subst, ◌∙◌}
 use mathlib.Core.Logic.{◌⊎◌, inl, inr, ⊎_elim}
-use mathlib.Core.Bool.{Bool, true, false, cond, not, ◌&&◌, or_true}
+use mathlib.Core.Bool.{Bool, true, false, cond, not, ◌&&◌, or-true}
 use mathlib.Core.List.{List}
 use native.Mathlib.Decide.{dec_lt}
 use lib.ListN.{length, set, get_or-eq_default}
 use lib.Seq.{get_or-set_same}
 use lib.Dec.{eqb, ltb, lit<}
-use borrow.Author.Tests.{eqb-true, eqb_false, eq-eqb, ne_eqb, ltb-true, ltb-false, lt-ltb, le-ltb}
+use borrow.Author.Tests.{eqb-true, eqb-false, eq-eqb, ne_eqb, ltb-true, ltb-false, lt-ltb, le-ltb}
 use Rattle.pools.proofs.BoolLaws.{split, true_false}
 use Rattle.pools.proofs.PoolLaws.{lowest-at, lowest-first}
 use Rattle.records.specs.Header.{packed}
@@ -97,10 +97,10 @@ joins-cut n one two x y e once l m p q z d o b =
     split (eqb d e)
     (λ r. let v = eqb-true d e r in
     let w : joins (set one e 0) (set two e 0) x z e ≡ false = joins_none (set one e 0) (set two e 0) x z e p o (get_or-set_same one e 0 0 m) in
-    rw (v, w) (split (eqb z y) (λ i. rw i) (λ i. rw (i, joins-two one two x y z e q (eqb_false z y i)))))
+    rw (v, w) (split (eqb z y) (λ i. rw i) (λ i. rw (i, joins-two one two x y z e q (eqb-false z y i)))))
     (λ r. rw (joins_beside one two 0 0 x z e d r)
     (split (eqb z y)
-    (λ i. rw (i, eqb-true z y i) (split (joins one two x y d) (λ j. absurd (eqb_false d e r (once d b j))) (λ j. j)))
+    (λ i. rw (i, eqb-true z y i) (split (joins one two x y d) (λ j. absurd (eqb-false d e r (once d b j))) (λ j. j)))
     (λ i. rw i)))
 
 -- the links of slot a with the slots below b have ended, and nothing else of links, nor of what no message writes, changed
@@ -149,7 +149,7 @@ untied k s u a me b e w l q =
           l (omega (arith, g.sized.words LINK-ONE (lit< tt))) (λ z. omega arith) q (suc c) d (λ z. omega arith) m
           ∙ split (eqb c b)
           (λ i. let v = eqb-true c b i in rw (eq-eqb (suc c) (suc b) (ap suc v), lt-ltb c (suc b) (omega arith)))
-          (λ i. let v = eqb_false c b i in rw (ne_eqb (suc c) (suc b) (λ z. v (omega arith)), w.joined c d m, step b c i));
+          (λ i. let v = eqb-false c b i in rw (ne_eqb (suc c) (suc b) (λ z. v (omega arith)), w.joined c d m, step b c i));
     }
 
 -- one more
@@ -290,7 +290,7 @@ unlinked k s u a me w e o =
         let f : joins (u LINK-ONE) (u LINK-TWO) (suc a) (suc b) e ≡ false = w.joined b e l ∙ rw (lt-ltb b k.actors m) in
         true_false (joins (u LINK-ONE) (u LINK-TWO) (suc a) (suc b) e)
         (⊎_elim (λ q. rw (eq-eqb (at u LINK-ONE e) (suc a) q.0, eq-eqb (at u LINK-TWO e) (suc b) q.1))
-        (λ q. rw (eq-eqb (at u LINK-ONE e) (suc b) q.0, eq-eqb (at u LINK-TWO e) (suc a) q.1) (or_true (eqb (at u LINK-ONE e) (suc a) && eqb (at u LINK-TWO e) (suc b)))) p)
+        (λ q. rw (eq-eqb (at u LINK-ONE e) (suc b) q.0, eq-eqb (at u LINK-TWO e) (suc a) q.1) (or-true (eqb (at u LINK-ONE e) (suc a) && eqb (at u LINK-TWO e) (suc b)))) p)
         f
 
 -- once the monitors on slot a are cut none is on it
@@ -303,5 +303,5 @@ unwatched k s u a me z w i q =
     let y : at u WATCHED i ≡ 0 = rw (lt-ltb i k.monitors l, r) at h in
     omega arith)
     (λ r. split (ltb i k.monitors)
-    (λ p. let y : at u WATCHED i ≡ at s WATCHED i = rw (p, r) at h in eqb_false (at s WATCHED i) (suc a) r (sym y ∙ q))
-    (λ p. let y : at u WATCHED i ≡ at s WATCHED i = rw p at h in eqb_false (at s WATCHED i) (suc a) r (sym y ∙ q)))
+    (λ p. let y : at u WATCHED i ≡ at s WATCHED i = rw (p, r) at h in eqb-false (at s WATCHED i) (suc a) r (sym y ∙ q))
+    (λ p. let y : at u WATCHED i ≡ at s WATCHED i = rw p at h in eqb-false (at s WATCHED i) (suc a) r (sym y ∙ q)))

@@ -1,7 +1,7 @@
 -- Soundness in groups of rules: what each group reads, and that nothing else matters to it.
 use Prim.Native.Nat.{ℕ, zero, suc, ◌+◌}
 use mathlib.Core.Path.{◌≡◌, refl, sym, ap, subst, ◌∙◌, fun_ext}
-use mathlib.Core.Bool.{true, cond, or_true}
+use mathlib.Core.Bool.{true, cond, or-true}
 use lib.Dec.{eqb}
 use mathlib.Core.List.{List, [], ◌∷◌}
 use Rattle.pools.proofs.BoolLaws.{split}
@@ -60,7 +60,7 @@ among rs states s c = cond (eqb c STATE) states (only rs s c)
 pub by_living : (rs : List ℕ) (f : State → Rule) → ((states : List ℕ) (s : State) → alive states ≡ alive (s STATE) → f (among rs states s) ≡ f s) →
     (s t : State) → Alike (LIVES ∷ rs) s t → Holds (f s) → Holds (f t)
 by_living rs f e s t a h =
-    let p : among rs (t STATE) s ≡ among rs (t STATE) t = fun_ext (λ c. split (mem c rs) (λ q. rw (q, a.cols c (rw q (or_true (eqb c LIVES))))) (λ q. rw q)) in
+    let p : among rs (t STATE) s ≡ among rs (t STATE) t = fun_ext (λ c. split (mem c rs) (λ q. rw (q, a.cols c (rw q (or-true (eqb c LIVES))))) (λ q. rw q)) in
     subst Holds (sym (e (t STATE) s (a.who refl)) ∙ ap f p ∙ e (t STATE) t refl) h
 
 -- such a group

@@ -10,7 +10,7 @@ use lib.ListN.{length, get_or, set, take, replicate, length-map, length-replicat
 use lib.Seq.{get_or-set_same, get_or-take, length-sets, sets}
 use lib.IntN.{ℤ, pos, negsuc}
 use lib.Dec.{eqb, ltb, leb, lit<}
-use borrow.Author.Tests.{eqb-true, eqb_false, eq-eqb, leb-false, leb-true, ltb-true, ltb-false, ne_eqb, not-true, not-false}
+use borrow.Author.Tests.{eqb-true, eqb-false, eq-eqb, leb-false, leb-true, ltb-true, ltb-false, ne_eqb, not-true, not-false}
 use Rattle.pools.specs.Pool.{occurs}
 use Rattle.pools.specs.Slot.{slot_of}
 use Rattle.pools.proofs.SlotLaws.{age_of_id, id_pos, of_live, slot_of_id}
@@ -83,7 +83,7 @@ wipe_is k s d z l =
       long = length-sets (s PAYLOAD) (ENTRY-BYTES * d + 0) m;
       blank = λ i b. let e : ENTRY-BYTES * d + i ≡ ENTRY-BYTES * d + 0 + i = omega arith in
           rw e (sets_same (s PAYLOAD) (ENTRY-BYTES * d + 0) m i (omega arith) (omega (arith, z.bytes)) ∙ get_or-replicate {A = ℕ} ENTRY-BYTES i 0 0 b);
-      apart = λ e q. sets_apart (s PAYLOAD) (ENTRY-BYTES * e) ENTRY-BYTES (ENTRY-BYTES * d + 0) m (λ j n b o r. eqb_false e d q (omega arith));
+      apart = λ e q. sets_apart (s PAYLOAD) (ENTRY-BYTES * e) ENTRY-BYTES (ENTRY-BYTES * d + 0) m (λ j n b o r. eqb-false e d q (omega arith));
     }
 
 -- a data entry is written that no mailbox names: each mailbox still holds nothing that its filter matches
@@ -115,7 +115,7 @@ pub let_go_keeps : (k : Caps) (s : State) (a : ℕ) → Good k s → a < k.actor
 unfolding let_go
 let_go_keeps k s a g l =
     split (eqb (at s HAND a) 0) (λ q. rw q g)
-    (λ q. let n = eqb_false (at s HAND a) 0 q in
+    (λ q. let n = eqb-false (at s HAND a) 0 q in
     let b : at s HAND a - 1 < k.datas = omega (arith, (g.actors a l).1.1) in
     rw (q, unfill_is s (at s HAND a - 1)) (let_good k s g a l (at s HAND a - 1) (omega arith) (wipe (s PAYLOAD) (at s HAND a - 1)) (wipe_is k s (at s HAND a - 1) g.sized b)))
 
@@ -171,14 +171,14 @@ module _ (k : Caps) (s : State) (g : Good k s) (a : ℕ) (there : alive (s STATE
         Part.mails by (λ f m. each_set (λ f. Holds (mail_rule k (enlist (filled s d sender (length payload) q) e a d) f)) e f
         (rw (taken-mail, owner-is, read_back g MAIL-OWNER e (suc a) tt under, read_back g MAIL-DATA e (suc d) tt under)
         (λ u. true_false false u refl, λ u. ((omega arith, there), (omega arith, omega (arith, below)))))
-        (λ r. rw (taken-other (s MAIL-FREE) e f (eqb_false f e r), other (s MAIL-OWNER) e (suc a) f r, other (s MAIL-DATA) e (suc d) f r) (g.mails f m))) also
+        (λ r. rw (taken-other (s MAIL-FREE) e f (eqb-false f e r), other (s MAIL-OWNER) e (suc a) f r, other (s MAIL-DATA) e (suc d) f r) (g.mails f m))) also
         Part.arrivals by (rw one_more (listed-joins k.mails (at s ARRIVED 0) (s ARRIVAL) (arrivals-fit g) (g.sized.words ARRIVAL (lit< tt)) g.arrivals e under room)) also
         Part.arrived by (rw one_more (once-joins k.mails (at s ARRIVED 0) (s ARRIVAL) (arrivals-fit g) (g.sized.words ARRIVAL (lit< tt)) g.arrivals
         (λ f. not (free (s MAIL-FREE) f)) (λ f. not (free (taken (s MAIL-FREE) e) f)) e room (rw mf) (rw taken-mail) (λ f n. rw (taken-other (s MAIL-FREE) e f n)) g.arrived)) also
         Part.filters by (λ f m. each_set (λ f. f < k.mails → Holds (filter_rule (enlist (filled s d sender (length payload) q) e a d) f)) e f
         (λ m. rw (owner-is, read_down g MAIL-DATA e d tt under, sender-is, w.header)
         (λ u. let y : eqb (at s STATE a) WAITS ≡ true = eq-eqb (at s STATE a) WAITS u.1 in rw (rw y at deaf)))
-        (λ r m. rw (taken-other (s MAIL-FREE) e f (eqb_false f e r), other (s MAIL-OWNER) e (suc a) f r, other (s MAIL-DATA) e (suc d) f r)
+        (λ r m. rw (taken-other (s MAIL-FREE) e f (eqb-false f e r), other (s MAIL-OWNER) e (suc a) f r, other (s MAIL-DATA) e (suc d) f r)
         (λ u. let c = owner_fresh (owned k s g) MAIL-DATA f refl ((g.mails f m).1 u.0).1.0 d df in
         rw (other (s SENDER) d sender (at s MAIL-DATA f - 1) c, header-same (s PAYLOAD) q (at s MAIL-DATA f - 1) (w.apart (at s MAIL-DATA f - 1) c)) (g.filters f m u)))
         m) also
@@ -299,7 +299,7 @@ module _ (k : Caps) (s : State) (g : Good k s) (j : ℕ) (jl : j < at s ARRIVED 
   pub still : (f : ℕ) → not (free (released (s MAIL-FREE) (mail_of s j)) f) ≡ true → (eqb f (mail_of s j) ≡ false) × (not (free (s MAIL-FREE) f) ≡ true)
   still f u =
       let r : eqb f (mail_of s j) ≡ false = ne_eqb f (mail_of s j) (λ e. true_false (free (released (s MAIL-FREE) (mail_of s j)) f) (rw e freed) (not-true (free (released (s MAIL-FREE) (mail_of s j)) f) u)) in
-      (r, rw (released-other (s MAIL-FREE) (mail_of s j) f (eqb_false f (mail_of s j) r)) at u)
+      (r, rw (released-other (s MAIL-FREE) (mail_of s j) f (eqb-false f (mail_of s j) r)) at u)
 
   -- the count of arrivals, one down
   one_less : get_or (set (s ARRIVED) 0 (at s ARRIVED 0 - 1)) 0 0 ≡ at s ARRIVED 0 - 1
@@ -326,7 +326,7 @@ module _ (k : Caps) (s : State) (g : Good k s) (j : ℕ) (jl : j < at s ARRIVED 
   unfolding delist pull poke with_col free_bit
   delist-mails f m = each_set (λ f. Holds (mail_rule k (delist s j) f)) (mail_of s j) f
       (rw (freed, set-zero (s MAIL-OWNER) (mail_of s j), set-zero (s MAIL-DATA) (mail_of s j)) (λ u. (refl, refl), λ u. true_false false u refl))
-      (λ r. rw (released-other (s MAIL-FREE) (mail_of s j) f (eqb_false f (mail_of s j) r), other (s MAIL-OWNER) (mail_of s j) 0 f r, other (s MAIL-DATA) (mail_of s j) 0 f r) (g.mails f m))
+      (λ r. rw (released-other (s MAIL-FREE) (mail_of s j) f (eqb-false f (mail_of s j) r), other (s MAIL-OWNER) (mail_of s j) 0 f r, other (s MAIL-DATA) (mail_of s j) 0 f r) (g.mails f m))
 
   -- the arrivals
   pub delist-arrivals : (i : ℕ) → i < k.mails → Holds (arrival_rule k (delist s j) i)
@@ -504,7 +504,7 @@ pub deadline_fits : (clock : ℕ) (wait : ℤ) → clock ≤ CLOCK-END → bad_w
     (clock < deadline_at clock wait) × (deadline_at clock wait ≤ DEADLINE-END)
 deadline_fits clock (pos n) h b o z =
     let l = wait_fits n b in
-    let m = eqb_false n 0 o in
+    let m = eqb-false n 0 o in
     (omega arith, omega arith)
 deadline_fits clock (negsuc n) h b o z = absurd (z refl)
 
@@ -536,7 +536,7 @@ module _ (k : Caps) (s : State) (g : Good k s) (a : ℕ) (runs : runner s ≡ su
       (λ q. rw (other (s WANT-CLASS) a class b q, other (s WANT-TAG) a tag b q, other (s DEADLINE) a deadline b q) (g.waits b h))) also
       Part.runs by (λ b h. rw z (each_set (λ b. b < k.actors → bool_byte (eqb (get_or (set (s STATE) a WAITS) b 0) RUNS) ≡ bool_byte (eqb 0 (suc b))) a b
       (λ h. rw (is, ne_eqb 0 (suc a) (λ e. omega arith)))
-      (λ q h. rw (other (s STATE) a WAITS b q, ne_eqb 0 (suc b) (λ e. omega arith)) (rw (ne_eqb (runner s) (suc b) (λ e. eqb_false b a q (omega (arith, runs)))) at (g.runs b h))) h)) also
+      (λ q h. rw (other (s STATE) a WAITS b q, ne_eqb 0 (suc b) (λ e. omega arith)) (rw (ne_eqb (runner s) (suc b) (λ e. eqb-false b a q (omega (arith, runs)))) at (g.runs b h))) h)) also
       Part.once by (λ b h. each_set (λ b. b < k.actors → Holds (once_rule (await s a sender class tag deadline) b)) a b
       (λ h. rw is (rw state-runs at (g.once a h)))
       (λ q h. rw (other (s STATE) a WAITS b q) (g.once b h)) h) also
@@ -566,7 +566,7 @@ receive_bare_keeps sender class tag wait k s a g runs empty right fair =
 pub receive_keeps : (sender class tag : ℕ) (wait : ℤ) → Keeps (receive sender class tag wait)
 receive_keeps sender class tag wait k s g p =
     let a = runner s - 1 in
-    let q = eqb_false (runner s) 0 p.0 in
+    let q = eqb-false (runner s) 0 p.0 in
     let l : a < k.actors = omega (arith, runner-fits g) in
     let n = neither (not (legal class tag)) (bad_wait wait) (second_passed p) in
     receive_bare_keeps sender class tag wait k (let_go s a) a (let_go_keeps k s a g l)

@@ -10,7 +10,7 @@ use mir.Val.{bool_byte}
 use lib.ListN.{length, get_or, set, length-append, length-map, get_or-eq_default}
 use lib.Seq.{length-take-le, take-length}
 use lib.Dec.{eqb, ltb, lit<}
-use borrow.Author.Tests.{eqb-true, eqb_false, eq-eqb, ne_eqb, ltb-false, ltb-true, not-true}
+use borrow.Author.Tests.{eqb-true, eqb-false, eq-eqb, ne_eqb, ltb-false, ltb-true, not-true}
 use Rattle.ledger.specs.Lists.{total}
 use Rattle.pools.specs.Pool.{Exact, occurs}
 use Rattle.pools.specs.Bits.{WORD-BITS, free, released, taken}
@@ -59,11 +59,11 @@ occurs-column d col es x =
     flags : (w : ℕ) → not (eqb w 0) && eqb (w - 1) d ≡ eqb w (suc d)
     flags w =
         split (eqb w 0) (λ q. let e = eqb-true w 0 q in rw (q, ne_eqb w (suc d) (λ r. omega arith)))
-        (λ q. rw q (one_up w d (eqb_false w 0 q)))
+        (λ q. rw q (one_up w d (eqb-false w 0 q)))
 
 -- an entry in use holds a number
 pub owner_some : (col es : List ℕ) → Exact es (λ e. not (unused col e)) → (e : ℕ) → 0 < occurs e es → 1 ≤ get_or col e 0
-owner_some col es x e o = let n = eqb_false (get_or col e 0) 0 (not-true (unused col e) (exact_used (λ e. not (unused col e)) es e x o)) in omega arith
+owner_some col es x e o = let n = eqb-false (get_or col e 0) 0 (not-true (unused col e) (exact_used (λ e. not (unused col e)) es e x o)) in omega arith
 
 -- ---- lists of owners
 -- c is one of the columns, and stands there once
@@ -82,7 +82,7 @@ held_beside : (cs : List ℕ) (s : State) (c e v d : ℕ) → mem c cs ≡ false
 held_beside [] s c e v d q = refl
 held_beside (b ∷ cs) s c e v d q =
     let n = neither (eqb c b) (mem c cs) q in
-    rw (poke-other s c e v b (ne_eqb b c (λ z. eqb_false c b n.0 (sym z))), held_beside cs s c e v d n.1)
+    rw (poke-other s c e v b (ne_eqb b c (λ z. eqb-false c b n.0 (sym z))), held_beside cs s c e v d n.1)
 
 -- THE LAW: what the owners name changes by the old word and the new
 pub held-poke : (cs : List ℕ) (s : State) (c e v d : ℕ) → sole c cs ≡ true → e < length (s c) →
@@ -92,7 +92,7 @@ held-poke (b ∷ cs) s c e v d o l =
     split (eqb c b)
     (λ q. let z : b ≡ c = sym (eqb-true c b q) in
     rw (z, poke-same s c e v, held_beside cs s c e v d (not-true (mem c cs) (rw q at o))) (omega (arith, occurs-set (suc d) (s c) e v l)))
-    (λ q. rw (poke-other s c e v b (ne_eqb b c (λ z. eqb_false c b q (sym z)))) (omega (arith, held-poke cs s c e v d (rw q at o) l)))
+    (λ q. rw (poke-other s c e v b (ne_eqb b c (λ z. eqb-false c b q (sym z)))) (omega (arith, held-poke cs s c e v d (rw q at o) l)))
 
 -- 0 is no number one up
 pub zero_no_up : (d : ℕ) → bool_byte (eqb 0 (suc d)) ≡ 0
@@ -100,7 +100,7 @@ zero_no_up d = rw (ne_eqb 0 (suc d) (λ e. omega arith))
 
 -- numbers one up are the same where the numbers are
 up : (d x : ℕ) → bool_byte (eqb (suc d) (suc x)) ≡ bool_byte (eqb x d)
-up d x = split (eqb x d) (λ q. rw (q, eqb-true x d q, eq-eqb (suc d) (suc d) refl)) (λ q. rw (q, ne_eqb (suc d) (suc x) (λ z. eqb_false x d q (omega arith))))
+up d x = split (eqb x d) (λ q. rw (q, eqb-true x d q, eq-eqb (suc d) (suc d) refl)) (λ q. rw (q, ne_eqb (suc d) (suc x) (λ z. eqb-false x d q (omega arith))))
 
 -- a word that named d names none: d is named once less
 held-clear : (cs : List ℕ) (s : State) (c e d x : ℕ) → sole c cs ≡ true → e < length (s c) → at s c e ≡ suc d → held cs (poke s c e 0) x + bool_byte (eqb x d) ≡ held cs s x
@@ -214,7 +214,7 @@ module _ {k : Caps} {cs : List ℕ} {s : State} (w : Owned k cs s) where
       owner_free x l =
           each_set (λ x. x < k.datas → held cs (poke s c e 0) x ≡ bool_byte (not (free (released (s DATA-FREE) d) x))) d x
           (λ l. rw (released-same (s DATA-FREE) d (w.bits d l)) (omega (arith, never, flag≤ (not (free (s DATA-FREE) d)))))
-          (λ r l. rw (released-other (s DATA-FREE) d x (eqb_false x d r)) (omega (arith, rw r at (held-clear cs s c e d x o owner_in h), w.once x l))) l
+          (λ r l. rw (released-other (s DATA-FREE) d x (eqb-false x d r)) (omega (arith, rw r at (held-clear cs s c e d x o owner_in h), w.once x l))) l
 
       -- it hands it on to a word of an owner that names none
       pub owner_pass : (b f : ℕ) → sole b cs ≡ true → f < length (s b) → at s b f ≡ 0 → eqb b c && eqb f e ≡ false → Held k.datas cs (poke (poke s c e 0) b f (suc d)) (s DATA-FREE)
@@ -226,7 +226,7 @@ module _ {k : Caps} {cs : List ℕ} {s : State} (w : Owned k cs s) where
     owner_take m z d f x l =
         each_set (λ x. x < k.datas → held cs (poke s c e (suc d)) x ≡ bool_byte (not (free (taken (s DATA-FREE) d) x))) d x
         (λ l. rw (taken-same (s DATA-FREE) d (free_inside (s DATA-FREE) d f)) (omega (arith, rw (eq-eqb d d refl) at (held-fill cs s c e d d o m z), rw f at (w.once d l))))
-        (λ r l. rw (taken-other (s DATA-FREE) d x (eqb_false x d r)) (omega (arith, rw r at (held-fill cs s c e d x o m z), w.once x l))) l
+        (λ r l. rw (taken-other (s DATA-FREE) d x (eqb-false x d r)) (omega (arith, rw r at (held-fill cs s c e d x o m z), w.once x l))) l
 
     -- none names a data entry that is free
     pub owner_fresh : 1 ≤ at s c e → (d : ℕ) → free (s DATA-FREE) d ≡ true → eqb (at s c e - 1) d ≡ false
@@ -288,5 +288,5 @@ module _ (k : Caps) (s : State) (g : Good k s) where
   pub free_no_value : (d : ℕ) → d < k.datas → free (s DATA-FREE) d ≡ true → at s VALUE-BUS d ≡ 0
   free_no_value d l f =
       split (eqb (at s VALUE-BUS d) 0) (λ q. eqb-true _ _ q)
-      (λ q. let (i, r) = value_issued d l (eqb_false _ _ q) in
+      (λ q. let (i, r) = value_issued d l (eqb-false _ _ q) in
       true_false (free (s DATA-FREE) d) f (owner_used (owned k s g) ISSUE i refl d r))

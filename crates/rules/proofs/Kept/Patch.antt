@@ -2,7 +2,7 @@
 use Prim.Native.Nat.{ℕ, zero, suc, ◌+◌}
 use native.Mathlib.Omega.{arith}
 use mathlib.Core.Path.{◌≡◌, refl, sym, ap, subst}
-use mathlib.Core.Bool.{Bool, true, false, cond, ◌||◌, or_true}
+use mathlib.Core.Bool.{Bool, true, false, cond, ◌||◌, or-true}
 use mathlib.Core.List.{List, [], ◌∷◌}
 use lib.ListN.{length}
 use lib.Dec.{eqb}
@@ -42,7 +42,7 @@ missing n (g ∷ gs) ws ns = cond (mem n ns || apart g.reads ws) (missing (suc n
 
 -- where there is none, the n-th is proved anew or reads none of them
 missing_none : (m : ℕ) (gs : List Group) (ws ns : List ℕ) → missing m gs ws ns ≡ [] → (n : ℕ) → mem (m + n) ns || apart (reads_at gs n) ws ≡ true
-missing_none m [] ws ns e n = or_true (mem (m + n) ns)
+missing_none m [] ws ns e n = or-true (mem (m + n) ns)
 missing_none m (g ∷ gs) ws ns e zero =
     let z : m + 0 ≡ m = omega arith in rw z (first_none (mem m ns || apart g.reads ws) m (missing (suc m) gs ws ns) e).0
 missing_none m (g ∷ gs) ws ns e (suc n) =

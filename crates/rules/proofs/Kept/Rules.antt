@@ -7,7 +7,7 @@ use mathlib.Core.Path.{◌≡◌, refl, sym, subst}
 use mathlib.Core.Logic.{⊎_elim}
 use mathlib.Core.Bool.{Bool, true, false, not, ◌&&◌, ◌||◌}
 use lib.Dec.{eqb}
-use borrow.Author.Tests.{ltb-true, lt-ltb, leb-true, le-leb, eqb-true, eqb_false, eq-eqb, ne_eqb, not-true}
+use borrow.Author.Tests.{ltb-true, lt-ltb, leb-true, le-leb, eqb-true, eqb-false, eq-eqb, ne_eqb, not-true}
 use Rattle.pools.proofs.BoolLaws.{split, true_false, and_left, and_right, and_true}
 use Rattle.rules.specs.Rule.{Rule, is, le, lt, eq, differ, both, imp, each, all, test, Holds}
 
@@ -68,7 +68,7 @@ reads (is b) = (λ e. e, λ h. h)
 reads (le a b) = (leb-true a b, le-leb a b)
 reads (lt a b) = (ltb-true a b, lt-ltb a b)
 reads (eq a b) = (eqb-true a b, eq-eqb a b)
-reads (differ a b) = (λ e. eqb_false a b (not-true (eqb a b) e), λ h. rw (ne_eqb a b h))
+reads (differ a b) = (λ e. eqb-false a b (not-true (eqb a b) e), λ h. rw (ne_eqb a b h))
 reads (both r s) =
     (λ e. ((reads r).0 (and_left (test r) (test s) e), (reads s).0 (and_right (test r) (test s) e)), λ h. and_true (test r) (test s) ((reads r).1 h.0) ((reads s).1 h.1))
 reads (imp r s) = (λ e h. (reads s).0 (imp_use (test r) (test s) e ((reads r).1 h)), λ h. imp_make (test r) (test s) (λ e. (reads s).1 (h ((reads r).0 e))))

@@ -8,7 +8,7 @@ use mir.Val.{bool_byte}
 use lib.ListN.{length, get_or, set, take}
 use lib.Seq.{get_or-set_same, get_or-set_other, get_or-take, length-take-le}
 use lib.Dec.{T, eqb, ltb, lit<}
-use borrow.Author.Tests.{eqb-true, eqb_false, eq-eqb, ne_eqb, ltb-true, ltb-false, not-false}
+use borrow.Author.Tests.{eqb-true, eqb-false, eq-eqb, ne_eqb, ltb-true, ltb-false, not-false}
 use Rattle.pools.proofs.BoolLaws.{split, flag_pos}
 use Rattle.pools.specs.Bits.{free}
 use Rattle.pools.specs.Slot.{age_of, slot_of}
@@ -179,7 +179,7 @@ rest_keeps k s a g l c u =
     (λ q. rw (other (s STATE) a RUNNABLE b q, other (s REASON) a 0 b q) (g.unused_words b h))) also
     Part.runs by (λ b h. rw (none, ne_eqb 0 (suc b) (λ e. omega arith)) (each_set (λ b. bool_byte (eqb (get_or (set (s STATE) a RUNNABLE) b 0) RUNS) ≡ 0) a b
     (rw is)
-    (λ q. rw (other (s STATE) a RUNNABLE b q) (g.runs b h ∙ rw (c, ne_eqb (suc a) (suc b) (λ e. eqb_false b a q (omega arith))))))) also
+    (λ q. rw (other (s STATE) a RUNNABLE b q) (g.runs b h ∙ rw (c, ne_eqb (suc a) (suc b) (λ e. eqb-false b a q (omega arith))))))) also
     Part.queue by (rw (one_more k s g) (queue-up k s g a l (rw u))) also
     Part.once by (rw (one_more k s g) (once-up k s g a l (rw u))) also
     Part.filters by (filters-still k s g a RUNNABLE l (λ e. omega arith)) also
@@ -188,7 +188,7 @@ rest_keeps k s a g l c u =
 -- "Yield puts the running actor at the tail of its level": sound as before
 pub yield_keeps : Keeps yield
 yield_keeps k s g p =
-    let r = runner-runs k s g (first-passed p) in rest_keeps k s (runner s - 1) g r.0 (omega (arith, eqb_false (runner s) 0 (first-passed p))) r.1
+    let r = runner-runs k s g (first-passed p) in rest_keeps k s (runner s - 1) g r.0 (omega (arith, eqb-false (runner s) 0 (first-passed p))) r.1
 
 -- ---- next
 -- who stands in the queue is a runnable actor
@@ -218,7 +218,7 @@ run_keeps k s a j g e h c =
     (λ q. rw (other (s STATE) a RUNS b q, other (s REASON) a 0 b q) (g.unused_words b n))) also
     Part.runs by (λ b n. rw one (each_set (λ b. bool_byte (eqb (get_or (set (s STATE) a RUNS) b 0) RUNS) ≡ bool_byte (eqb (suc a) (suc b))) a b
     (rw (is, eq-eqb (suc a) (suc a) refl))
-    (λ q. rw (other (s STATE) a RUNS b q, ne_eqb (suc a) (suc b) (λ e. eqb_false b a q (omega arith))) (g.runs b n ∙ rw (c, ne_eqb 0 (suc b) (λ e. omega arith)))))) also
+    (λ q. rw (other (s STATE) a RUNS b q, ne_eqb (suc a) (suc b) (λ e. eqb-false b a q (omega arith))) (g.runs b n ∙ rw (c, ne_eqb 0 (suc b) (λ e. omega arith)))))) also
     Part.queue by (rw less (listed_leaves k.actors (head s QUEUED) (s QUEUE) (queue-fits g) (col k s g QUEUE tt) g.queue j h)) also
     Part.once by (rw less (once_leaves k.actors (head s QUEUED) (s QUEUE) (queue-fits g) (col k s g QUEUE tt) g.queue j h
     (λ b. eqb (at s STATE b) RUNNABLE) (λ b. eqb (get_or (set (s STATE) a RUNS) b 0) RUNNABLE) (rw (e, is)) (λ b n. rw (get_or-set_other (s STATE) a b RUNS 0 (λ z. n (z ∙ sym e)))) g.once)) also

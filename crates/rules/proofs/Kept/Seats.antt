@@ -8,7 +8,7 @@ use mathlib.Core.List.{List, [], ◌∷◌}
 use lib.ListN.{length, get_or, set, get_or-eq_default}
 use lib.Seq.{get_or-set_same, set_out}
 use lib.Dec.{eqb, ltb, lit<}
-use borrow.Author.Tests.{eqb-true, eqb_false, eq-eqb, le-ltb, lt-ltb, ltb-true, ltb-false, ne_eqb, not-false}
+use borrow.Author.Tests.{eqb-true, eqb-false, eq-eqb, le-ltb, lt-ltb, ltb-true, ltb-false, ne_eqb, not-false}
 use Rattle.pools.specs.Pool.{occurs}
 use Rattle.pools.specs.Bits.{cleared}
 use Rattle.pools.proofs.BoolLaws.{neither, split, true_false}
@@ -108,13 +108,13 @@ module _ (k : Caps) (s : State) (g : Good k s) (b n : ℕ) (bl : b < MOST-BUSES)
       split (eqb (at s VALUE-BUS e) (suc b))
       (λ q. rw (f, q) (split (eqb m n)
       (λ z. rw (eqb-true m n z, cleared-same (at s READERS e) (MOST-SEATS + n)) (λ u. true_false false u refl))
-      (λ z. let d = eqb_false m n z in
+      (λ z. let d = eqb-false m n z in
       rw (
         cleared-other (at s READERS e) (MOST-SEATS + n) (MOST-SEATS + m) (λ x. d (omega arith)),
         cleared-other (at s READERS e) (MOST-SEATS + n) m (λ x. omega arith),
         other (s SEAT) (seat_at b n) 0 (seat_at (at s VALUE-BUS e - 1) m) (seats_differ b n (at s VALUE-BUS e - 1) m nl lm (λ x y. d y)),
       ) old)))
-      (λ q. let d = eqb_false (at s VALUE-BUS e) (suc b) q in
+      (λ q. let d = eqb-false (at s VALUE-BUS e) (suc b) q in
       rw (f, q, other (s SEAT) (seat_at b n) 0 (seat_at (at s VALUE-BUS e - 1) m) (seats_differ b n (at s VALUE-BUS e - 1) m nl lm (λ x y. d (omega arith)))) old)
 
   -- THE THEOREM of one who stands up: sound as before
@@ -201,7 +201,7 @@ module _ (k : Caps) (a : ℕ) where
       let r : eqb (seat_at c n) (seat_at b j) ≡ false =
       ne_eqb (seat_at c n) (seat_at b j) (λ z. omega (arith, gone, ap (λ (i : ℕ). get_or (set (u SEAT) (seat_at b j) 0) i 0) z, set-zero (u SEAT) (seat_at b j))) in
       let here : in_seat u c n ≡ suc a = sym (other (u SEAT) (seat_at b j) 0 (seat_at c n) r) ∙ gone in
-      (here, λ z. let y : n ≡ j = seat_once g b n j l h (sits_seat u b (suc a) q) (λ x. omega arith) ((rw z at here) ∙ sym there) in eqb_false (seat_at c n) (seat_at b j) r (omega arith)))
+      (here, λ z. let y : n ≡ j = seat_once g b n j l h (sits_seat u b (suc a) q) (λ x. omega arith) ((rw z at here) ∙ sym there) in eqb-false (seat_at c n) (seat_at b j) r (omega arith)))
       (λ q. let here : in_seat u c n ≡ suc a = rw q at e in
       (here, λ z. sits-not u b (suc a) q n h (rw z at here)))
 
@@ -291,8 +291,8 @@ bus_fair entries subscribers reads age q =
     let (a, b) = neither (eqb entries 0) (ltb MOST-VALUES entries) x in
     let (c, d) = neither (eqb subscribers 0) (ltb MOST-SEATS subscribers) v in
     let (e, f) = neither (ltb MOST-READS reads) (ltb LONGEST-AGE age) w in
-    let n = eqb_false entries 0 a in
-    let m = eqb_false subscribers 0 c in
+    let n = eqb-false entries 0 a in
+    let m = eqb-false subscribers 0 c in
     (omega arith, ltb-false MOST-VALUES entries b, omega arith, ltb-false MOST-SEATS subscribers d, ltb-false MOST-READS reads e, ltb-false LONGEST-AGE age f)
 
 module _ (k : Caps) (s : State) (g : Good k s) (entries subscribers reads age : ℕ) (fair : bad_bus entries subscribers reads age ≡ false) (room : head s BUSES < MOST-BUSES) where
@@ -315,7 +315,7 @@ module _ (k : Caps) (s : State) (g : Good k s) (entries subscribers reads age : 
       Part.buses by (λ c l. each_set (λ c. c < MOST-BUSES → Holds (bus_rule (make_bus s entries subscribers reads age) c)) b c
       (λ l. rw (one_more, read_back g BUS-SIZE b entries tt l, read_back g BUS-SEATS b subscribers tt l, read_back g BUS-READS b reads tt l, read_back g BUS-AGE b age tt l)
       (λ h. (((f.0, f.1), (f.2, f.3)), (f.4, f.5)), λ h. absurd (omega arith)))
-      (λ r l. let d = eqb_false c b r in
+      (λ r l. let d = eqb-false c b r in
       rw (one_more, other (s BUS-SIZE) b entries c r, other (s BUS-SEATS) b subscribers c r, other (s BUS-READS) b reads c r, other (s BUS-AGE) b age c r)
       (λ h. (g.buses c l).0 (omega arith), λ h. (g.buses c l).1 (omega arith))) l) also
       Part.rows by (λ c l m lm h.

@@ -8,7 +8,7 @@ use mathlib.Core.Bool.{Bool, true, false, not, ◌&&◌}
 use lib.ListN.{length}
 use lib.Seq.{get_or-set_same}
 use lib.Dec.{eqb, ltb, lit<}
-use borrow.Author.Tests.{eqb_false, ltb-true, ltb-false, not-false}
+use borrow.Author.Tests.{eqb-false, ltb-true, ltb-false, not-false}
 use Rattle.pools.specs.Slot.{id_of, slot_of}
 use Rattle.pools.proofs.BoolLaws.{split, and_right, neither}
 use Rattle.pools.proofs.PoolLaws.{lowest-first}
@@ -105,7 +105,7 @@ module _ (k : Caps) (s : State) (g : Good k s) where
   pub actor_other : (id : ℕ) → eqb (runner s) 0 ≡ false → is_actor s id ≡ true → eqb id (runner_id s) ≡ false → runner s ≡ suc (slot_of ACTOR-FACTOR id) → ⊥
   actor_other id h q e z =
       let w : slot_of ACTOR-FACTOR id ≡ runner s - 1 = omega arith in
-      eqb_false id (runner_id s) e (live_is ACTOR-FACTOR (s STATE) (s AGE) id (omega arith) q ∙ ap (λ (x : ℕ). id_of ACTOR-FACTOR (at s AGE x) x) w)
+      eqb-false id (runner_id s) e (live_is ACTOR-FACTOR (s STATE) (s AGE) id (omega arith) q ∙ ap (λ (x : ℕ). id_of ACTOR-FACTOR (at s AGE x) x) w)
 
   -- ---- links
   -- a link begins or ends
@@ -136,7 +136,7 @@ link_keeps partner k s g p =
     split (ltb (link_of k s (runner s) b) k.links) (λ v. rw v g)
     (λ v. let w : not (ltb (link_for k s) k.links) ≡ false = rw v at (fourth_passed p) in
     rw v (tied_keeps k s g (link_for k s) (runner s) b (ltb-true (link_for k s) k.links (not-false (ltb (link_for k s) k.links) w))
-    (λ z. absurd (eqb_false (runner s) 0 h z))
+    (λ z. absurd (eqb-false (runner s) 0 h z))
     (λ z. ((omega arith, runner-alive k s g h), ((omega arith, there), actor_other k s g partner h r (second_passed p))))
     (λ d m o. lowest-first (joins (s LINK-ONE) (s LINK-TWO) (runner s) b) k.links d (omega (arith, ltb-false (link_of k s (runner s) b) k.links v)))))
 
@@ -177,7 +177,7 @@ monitor_keeps target k s g p =
     let r = not-false (is_actor s target) (third_passed p) in
     let m = ltb-true i k.monitors (not-false (ltb i k.monitors) (fourth_passed p)) in
     let f = next_slot_lem monitor_pool k s m in
-    watch_keeps k s g i (runner s) (suc (slot_of ACTOR-FACTOR target)) m f.1 (eqb_false (runner s) 0 p.0) (λ z. omega arith) (runner-alive k s g p.0)
+    watch_keeps k s g i (runner s) (suc (slot_of ACTOR-FACTOR target)) m f.1 (eqb-false (runner s) 0 p.0) (λ z. omega arith) (runner-alive k s g p.0)
     (rw (down (slot_of ACTOR-FACTOR target)) (actor_alive k s g target r)) (actor_other k s g target p.0 r (second_passed p))
 
 -- and taking a monitor back

@@ -9,7 +9,7 @@ use mir.Val.{bool_byte}
 use lib.ListN.{length, get_or, set, take, drop, get_or-eq_default, take-append-drop}
 use lib.Seq.{get_or-take, length-take-le}
 use lib.Dec.{eqb, ltb, lit<}
-use borrow.Author.Tests.{eqb-true, eqb_false, eq-eqb, le-ltb, leb-false, leb-true, lt-ltb, ltb-true, ne_eqb, not-false}
+use borrow.Author.Tests.{eqb-true, eqb-false, eq-eqb, le-ltb, leb-false, leb-true, lt-ltb, ltb-true, ne_eqb, not-false}
 use Rattle.pools.specs.Pool.{lowest, occurs}
 use Rattle.pools.specs.Lists.{without}
 use Rattle.pools.specs.Bits.{bit, cleared, free, marked, released}
@@ -98,7 +98,7 @@ module _ (k : Caps) (s : State) (g : Good k s) (j : ℕ) (jl : j < head s ISSUED
         (each_set (λ e. e < k.datas → occurs (suc e) (set (s ISSUE) j 0) ≡ bool_byte (not (eqb (get_or (set (s VALUE-BUS) d 0) e 0) 0))) d e
         (λ l. let o = rw (eq-eqb (at s ISSUE j) (suc d) (value_at_lem k s g j jl)) at (zeroed-occurs d (s ISSUE) j (omega (arith, row_fits k s g))) in
         rw (set-zero (s VALUE-BUS) d) (omega (arith, o, g.issued d l, flag≤ (not (eqb (at s VALUE-BUS d) 0)))))
-        (λ r l. let o = rw (ne_eqb (at s ISSUE j) (suc e) (λ z. eqb_false e d r (omega (arith, value_at_lem k s g j jl)))) at (zeroed-occurs e (s ISSUE) j (omega (arith, row_fits k s g))) in
+        (λ r l. let o = rw (ne_eqb (at s ISSUE j) (suc e) (λ z. eqb-false e d r (omega (arith, value_at_lem k s g j jl)))) at (zeroed-occurs e (s ISSUE) j (omega (arith, row_fits k s g))) in
         rw (other (s VALUE-BUS) d 0 e r) (omega (arith, o, g.issued e l))) l)
 
     -- the values that are left
@@ -223,7 +223,7 @@ module _ (s : State) (b : ℕ) where
       (λ r. rw (step m n r) (audience-may m n))))
       (λ q. rw q (split (eqb n m)
       (λ r. rw (eqb-true n m r, last, q) (add_same x (MOST-SEATS + m) bare))
-      (λ r. rw (step m n r) (add-other x (MOST-SEATS + m) (MOST-SEATS + n) bare (λ z. eqb_false n m r (omega arith)) ∙ audience-may m n))))
+      (λ r. rw (step m n r) (add-other x (MOST-SEATS + m) (MOST-SEATS + n) bare (λ z. eqb-false n m r (omega arith)) ∙ audience-may m n))))
 
   -- one more of them is one more bit
   pub audience-marks : (m : ℕ) → audience s b (suc m) ≡ cond (eqb (in_seat s b m) 0) (audience s b m) (marked (audience s b m) (MOST-SEATS + m))
@@ -312,7 +312,7 @@ module _ (k : Caps) (s : State) (g : Good k s) (d : ℕ) (below : d < k.datas) (
     begun-issues i l =
         each_set (λ i. i < k.datas → Holds (issue_rule k (begun s d b mask (length payload) q) i)) (head s ISSUED) i
         (λ l. rw (one_more, read_back g ISSUE (head s ISSUED) (suc d) tt l) (λ h. (omega arith, below), λ h. absurd (omega arith)))
-        (λ r l. let x = eqb_false i (head s ISSUED) r in rw (one_more, other (s ISSUE) (head s ISSUED) (suc d) i r) (λ h. (g.issues i l).0 (omega arith), λ h. (g.issues i l).1 (omega arith))) l
+        (λ r l. let x = eqb-false i (head s ISSUED) r in rw (one_more, other (s ISSUE) (head s ISSUED) (suc d) i r) (λ h. (g.issues i l).0 (omega arith), λ h. (g.issues i l).1 (omega arith))) l
 
     -- each value is in it once
     begun-issued : (e : ℕ) → e < k.datas → Holds (issued_rule (begun s d b mask (length payload) q) e)
@@ -324,7 +324,7 @@ module _ (k : Caps) (s : State) (g : Good k s) (d : ℕ) (below : d < k.datas) (
         (λ r. let z = eqb-true e d r in
         let none = rw (free_no_value k s g d below df) at (g.issued d below) in
         rw (z, read_back g VALUE-BUS d (suc b) tt below, ne_eqb (suc b) 0 (λ y. omega arith)) (omega (arith, rw (z, eq-eqb (suc d) (suc d) refl) at o, none)))
-        (λ r. rw (other (s VALUE-BUS) d (suc b) e r) (omega (arith, rw (ne_eqb (suc d) (suc e) (λ y. eqb_false e d r (omega arith))) at o, g.issued e l)))
+        (λ r. rw (other (s VALUE-BUS) d (suc b) e r) (omega (arith, rw (ne_eqb (suc d) (suc e) (λ y. eqb-false e d r (omega arith))) at o, g.issued e l)))
 
     -- no bus has too many
     begun-crowds : (c : ℕ) → c < MOST-BUSES → Holds (crowd_rule (begun s d b mask (length payload) q) c)
@@ -333,7 +333,7 @@ module _ (k : Caps) (s : State) (g : Good k s) (d : ℕ) (below : d < k.datas) (
         let o = occurs-set (suc c) (s VALUE-BUS) d (suc b) (omega (arith, below, g.sized.words VALUE-BUS (lit< tt))) in
         split (eqb c b)
         (λ r. let z = eqb-true c b r in rw z (omega (arith, rw (z, eq-eqb (suc b) (suc b) refl) at o, room)))
-        (λ r. omega (arith, rw (ne_eqb (suc b) (suc c) (λ y. eqb_false c b r (omega arith))) at o, g.crowds c l))
+        (λ r. omega (arith, rw (ne_eqb (suc b) (suc c) (λ y. eqb-false c b r (omega arith))) at o, g.crowds c l))
 
     -- sound as before
     begun_good : Good k (begun s d b mask (length payload) q)
@@ -402,7 +402,7 @@ module _ (k : Caps) (s : State) (g : Good k s) (n j : ℕ) (nl : n < MOST-SEATS)
           λ m lm.
               split (eqb m n)
               (λ r. rw (eqb-true m n r, signed_reads x n nl) (λ u. true_false false u refl))
-              (λ r. rw (signed-may x n m nl (eqb_false m n r), signed-read x n m lm (eqb_false m n r)) (((g.values d dl).1 z).1 m lm)),
+              (λ r. rw (signed-may x n m nl (eqb-false m n r), signed-read x n m lm (eqb-false m n r)) (((g.values d dl).1 z).1 m lm)),
         ),
       ))
       (λ r l. rw (other (s READERS) d (signed x n) e r) (g.values e l)) l) also

@@ -10,7 +10,7 @@ use mir.Val.{bool_byte}
 use lib.ListN.{length, get_or, set, take, drop, get_or-eq_default, get_or-append}
 use lib.Seq.{get_or-set_same, get_or-set_other, set_out, take-suc-set, take_at, get_or-take, get_or-drop, get_or-append-add, length-take-le}
 use lib.Dec.{eqb, ltb}
-use borrow.Author.Tests.{eqb-true, eqb_false, eq-eqb, ne_eqb, ltb-true, ltb-false, lt-ltb, le-ltb, not-true}
+use borrow.Author.Tests.{eqb-true, eqb-false, eq-eqb, ne_eqb, ltb-true, ltb-false, lt-ltb, le-ltb, not-true}
 use Rattle.pools.specs.Pool.{occurs, Exact}
 use Rattle.pools.specs.Lists.{without}
 use Rattle.pools.specs.Slot.{unused}
@@ -28,7 +28,7 @@ use Rattle.rules.specs.Sound.{list_rule}
 -- ---- one word
 -- a word beside the one that is written
 pub other : (l : List ℕ) (a v b : ℕ) → eqb b a ≡ false → get_or (set l a v) b 0 ≡ get_or l b 0
-other l a v b q = get_or-set_other l a b v 0 (eqb_false b a q)
+other l a v b q = get_or-set_other l a b v 0 (eqb-false b a q)
 
 -- what is said of each entry, after a write to entry a
 pub each_set : (P : ℕ → Type 0) (a b : ℕ) → P a → (eqb b a ≡ false → P b) → P b
@@ -86,7 +86,7 @@ module _ (st : List ℕ) where
   -- and the other way round
   pub of-alive : (a : ℕ) → alive st a ≡ true → get_or st a 0 ≡ 0 → ⊥
   unfolding alive
-  of-alive a e = eqb_false (get_or st a 0) 0 (not-true (eqb (get_or st a 0) 0) e)
+  of-alive a e = eqb-false (get_or st a 0) 0 (not-true (eqb (get_or st a 0) 0) e)
 
   -- who is alive has a slot
   pub alive-below : (a : ℕ) → alive st a ≡ true → a < length st
@@ -108,14 +108,14 @@ module _ (st : List ℕ) where
       let l : a < length st = alive-below a (alive-of a h) in
       fun_ext (λ b. split (eqb b a)
       (λ q. rw (eqb-true b a q) (alive-begins a v l w ∙ sym (alive-of a h)))
-      (λ q. alive-other a v b (eqb_false b a q)))
+      (λ q. alive-other a v b (eqb-false b a q)))
 
   -- who was alive is, once slot a is
   pub alive_grows : (a v b : ℕ) → (v ≡ 0 → ⊥) → alive st b ≡ true → alive (set st a v) b ≡ true
   alive_grows a v b w e =
       split (eqb b a)
       (λ q. let r : b ≡ a = eqb-true b a q in ap (alive (set st a v)) r ∙ alive-begins a v (alive-below a (ap (alive st) (sym r) ∙ e)) w)
-      (λ q. alive-other a v b (eqb_false b a q) ∙ e)
+      (λ q. alive-other a v b (eqb-false b a q) ∙ e)
 
 -- ---- a list of slots in the first m words of a column of n; f says who stands in it
 -- the first m words are slots, and the others 0
@@ -161,7 +161,7 @@ module _ (n m : ℕ) (q : List ℕ) (w : m ≤ n) (z : length q ≡ n) (h : List
   listed-joins a l g i k =
       each_set (λ i. Holds (list_rule n (m + 1) (set q m a) i)) m i
       (rw (get_or-set_same q m a 0 (omega arith)) (λ u. l, λ u. absurd (omega arith)))
-      (λ e. rw (other q m a i e) (λ u. (h i k).0 (omega (arith, eqb_false i m e)), λ u. (h i k).1 (omega arith)))
+      (λ e. rw (other q m a i e) (λ u. (h i k).0 (omega (arith, eqb-false i m e)), λ u. (h i k).1 (omega arith)))
 
   -- the list then names a besides
   pub once-joins : (f v : ℕ → Bool) (a : ℕ) → m < n → f a ≡ false → v a ≡ true → ((b : ℕ) → (b ≡ a → ⊥) → v b ≡ f b) → Once n m q f → Once n (m + 1) (set q m a) v
@@ -169,7 +169,7 @@ module _ (n m : ℕ) (q : List ℕ) (w : m ≤ n) (z : length q ≡ n) (h : List
       rw (add-one m, take-suc-set q m a (omega arith), occurs_snoc b (take m q) a, o b k)
       (split (eqb b a)
       (λ e. let r : b ≡ a = eqb-true b a e in rw (r, x, y, eq-eqb a a refl))
-      (λ e. rw (s b (eqb_false b a e), ne_eqb a b (λ r. eqb_false b a e (sym r))) (omega arith)))
+      (λ e. rw (s b (eqb-false b a e), ne_eqb a b (λ r. eqb-false b a e (sym r))) (omega arith)))
 
   module _ (j : ℕ) (l : j < m) where
     -- the j-th leaves
@@ -185,7 +185,7 @@ module _ (n m : ℕ) (q : List ℕ) (w : m ≤ n) (z : length q ≡ n) (h : List
         (split (eqb (get_or q j 0) b)
         (λ e. let r : b ≡ get_or q j 0 = sym (eqb-true (get_or q j 0) b e) in
         rw (ap v r ∙ y) (omega (arith, rw e at c, o b k, flag≤ (f b))))
-        (λ e. rw (s b (λ r. eqb_false (get_or q j 0) b e (sym r))) (omega (arith, rw e at c, o b k))))
+        (λ e. rw (s b (λ r. eqb-false (get_or q j 0) b e (sym r))) (omega (arith, rw e at c, o b k))))
 
 -- ---- worn slots
 -- tests whose opposites are the same

@@ -3,7 +3,7 @@ use Prim.Native.Nat.{ℕ, ◌<◌}
 use native.Mathlib.Omega.{arith}
 use mathlib.Core.Path.{◌≡◌}
 use mathlib.Core.Logic.{◌⊎◌, inl, inr}
-use mathlib.Core.Bool.{true, false, not, and_false}
+use mathlib.Core.Bool.{true, false, not, and-false}
 use borrow.Author.Tests.{ne_eqb}
 use Rattle.pools.specs.Slot.{age_of, slot_of, unused}
 use Rattle.pools.proofs.SlotLaws.{of_live}
@@ -22,4 +22,4 @@ pub old_id : (s t : State) (id : ℕ) → is_actor s id ≡ true → (at t STATE
 old_id s t id e (inl f) = id_free t id f
 old_id s t id e (inr f) =
     rw (ne_eqb (at t AGE (slot_of ACTOR-FACTOR id)) (age_of ACTOR-FACTOR id) (λ q. omega (arith, (of_live ACTOR-FACTOR (s STATE) (s AGE) id e).1)))
-    (and_false (not (unused (t STATE) (slot_of ACTOR-FACTOR id))))
+    (and-false (not (unused (t STATE) (slot_of ACTOR-FACTOR id))))

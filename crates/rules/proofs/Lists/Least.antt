@@ -7,7 +7,7 @@ use mathlib.Core.Bool.{Bool, true, false, ◌&&◌, ◌||◌}
 use mathlib.Core.List.{List, [], ◌∷◌}
 use mir.Val.{bool_byte}
 use lib.Dec.{eqb, ltb}
-use borrow.Author.Tests.{eqb-true, eqb_false, eq-eqb, ltb-true, ltb-false, lt-ltb, le-ltb}
+use borrow.Author.Tests.{eqb-true, eqb-false, eq-eqb, ltb-true, ltb-false, lt-ltb, le-ltb}
 use Rattle.ledger.specs.Lists.{first}
 use Rattle.pools.specs.Pool.{occurs}
 use Rattle.pools.proofs.BoolLaws.{split, true_false, and_left, and_right, neither}
@@ -60,7 +60,7 @@ module _ (f : ℕ → Bool) (g : ℕ → ℕ) (n : ℕ) where
           | no y ↦ split (eqb b 0)
               (λ v. true_false (f j) t (h.none (eqb-true b 0 v) j (omega arith)))
               (λ v. let m = ltb-true (g n) (g (b - 1)) (rw v at r) in
-              let o = no_before (g j) (g (b - 1)) j (b - 1) (h.first (eqb_false b 0 v) j (omega arith) t) in
+              let o = no_before (g j) (g (b - 1)) j (b - 1) (h.first (eqb-false b 0 v) j (omega arith) t) in
               before_no (g j) (g n) j n (omega arith) (λ w. omega arith))
         ]);
       }

@@ -7,7 +7,7 @@ use mathlib.Core.List.{List, ◌++◌, append_assoc}
 use lib.ListN.{length, get_or, set, take, drop, replicate, length-append, length-drop, length-replicate, get_or-replicate}
 use lib.Seq.{get_or-take, get_or-drop, take-take, take_at, drop_at, drop-drop, get_or-append-add, length-take-le, ext_get_or, sets, length-sets}
 use lib.Dec.{eqb}
-use borrow.Author.Tests.{eqb_false, not-true}
+use borrow.Author.Tests.{eqb-false, not-true}
 use Rattle.pools.specs.Bits.{WORD-BITS, free, taken, released}
 use Rattle.pools.proofs.BoolLaws.{true_false}
 use Rattle.pools.proofs.ListLaws.{part-take}
@@ -116,7 +116,7 @@ module _ (df sn ln vb vb' p q ages : List ℕ) (d : ℕ) (same : (e : ℕ) → e
       each_set (DataAt (released df d) (set sn d 0) (set ln d 0) vb' q ages) d e
       (λ u. ((set-zero sn d, set-zero ln d), w.blank), λ u. true_false (free (released df d) d) f (not-true (free (released df d) d) u))
       (λ r. data_same df (released df d) sn (set sn d 0) ln (set ln d 0) vb vb' p q ages e
-      (released-other df d e (eqb_false e d r)) (other sn d 0 e r) (other ln d 0 e r) (same e r) (w.apart e r) h)
+      (released-other df d e (eqb-false e d r)) (other sn d 0 e r) (other ln d 0 e r) (same e r) (w.apart e r) h)
 
   -- it is taken, and is itself sound
   pub datas-take : (sender n : ℕ) → ((e : ℕ) → eqb e d ≡ false → bytes_at q e ≡ bytes_at p e) → DataAt (taken df d) (set sn d sender) (set ln d n) vb' q ages d →
@@ -124,7 +124,7 @@ module _ (df sn ln vb vb' p q ages : List ℕ) (d : ℕ) (same : (e : ℕ) → e
   datas-take sender n apart own e h =
       each_set (DataAt (taken df d) (set sn d sender) (set ln d n) vb' q ages) d e own
       (λ r. data_same df (taken df d) sn (set sn d sender) ln (set ln d n) vb vb' p q ages e
-      (taken-other df d e (eqb_false e d r)) (other sn d sender e r) (other ln d n e r) (same e r) (apart e r) h)
+      (taken-other df d e (eqb-false e d r)) (other sn d sender e r) (other ln d n e r) (same e r) (apart e r) h)
 
 -- ---- what is stored in an entry
 -- a payload area in which entry d, all zero before, holds a message, and nothing else changed
@@ -159,5 +159,5 @@ written p m d h l s f z =
           let a : ENTRY-BYTES * d + (HEADER-BYTES + length m) + i ≡ ENTRY-BYTES * d + (length x + i) = omega (arith, n) in
           rw a (byte-bytes q d (length x + i) (omega (arith, n)) ∙ ap (λ (l : List ℕ). get_or l (length x + i) 0) y
           ∙ get_or-append-add x _ i 0 ∙ get_or-replicate {A = ℕ} (ENTRY-BYTES - length x) i 0 0 (omega (arith, n)));
-      apart = λ e q. sets_apart p (ENTRY-BYTES * e) ENTRY-BYTES (ENTRY-BYTES * d + 0) x (λ j i b o r. eqb_false e d q (omega arith));
+      apart = λ e q. sets_apart p (ENTRY-BYTES * e) ENTRY-BYTES (ENTRY-BYTES * d + 0) x (λ j i b o r. eqb-false e d q (omega arith));
     }

@@ -3,7 +3,7 @@ use Prim.Native.Nat.{ℕ, zero, suc, ◌≤◌, ◌<◌}
 use native.Mathlib.Omega.{arith}
 use native.Mathlib.Decide.{dec_lt}
 use mathlib.Core.Path.{◌≡◌, refl, sym, ap, ap₂, ◌∙◌, fun_ext}
-use mathlib.Core.Bool.{Bool, true, false, cond, not, ◌&&◌, ◌||◌, and_false, or_false, or_true}
+use mathlib.Core.Bool.{Bool, true, false, cond, not, ◌&&◌, ◌||◌, and-false, or-false, or-true}
 use mathlib.Core.List.{List, [], ◌∷◌, ◌++◌, map, map-append, append-nil}
 use lib.Dec.{eqb}
 use borrow.Author.Tests.{eqb-true, ne_eqb}
@@ -59,7 +59,7 @@ map_rows h f g (suc n) =
 -- where it is not in the list
 keep-gone : (p : ℕ → Bool) (n : ℕ) (es : List ℕ) → occurs n es ≡ 0 → keep (λ e. p e && eqb e n) es ≡ []
 keep-gone p n es h =
-    keep_none_on (λ e. p e && eqb e n) es (λ e o. rw (ne_eqb e n (λ q. omega (arith, rw q at o))) (and_false (p e)))
+    keep_none_on (λ e. p e && eqb e n) es (λ e o. rw (ne_eqb e n (λ q. omega (arith, rw q at o))) (and-false (p e)))
 
 -- where it is, and passes
 pub keep-once : (p : ℕ → Bool) (n : ℕ) (es : List ℕ) → p n ≡ true → occurs n es ≡ 1 → keep (λ e. p e && eqb e n) es ≡ n ∷ []
@@ -70,7 +70,7 @@ keep-once p n (x ∷ es) q h =
     (λ r. let e = eqb-true x n r in
     let o : occurs n es ≡ 0 = omega (arith, rw r at h) in
     rw (r, e, q) (ap (λ (l : List ℕ). n ∷ l) (keep-gone p n es o)))
-    (λ r. rw (r, and_false (p x)) (keep-once p n es q (omega (arith, rw r at h))))
+    (λ r. rw (r, and-false (p x)) (keep-once p n es q (omega (arith, rw r at h))))
 
 -- it is there where it is in use and passes
 keep_one : (u p : ℕ → Bool) (n : ℕ) (es : List ℕ) → Exact es u → keep (λ e. p e && eqb e n) es ≡ cond (u n && p n) (n ∷ []) []
@@ -78,7 +78,7 @@ keep_one u p n es x =
     split (u n)
     (λ q. split (p n)
     (λ r. rw (q, r) (keep-once p n es r (rw q at (x n))))
-    (λ r. rw (q, r) (keep_none_on (λ e. p e && eqb e n) es (λ e o. split (eqb e n) (λ z. rw (eqb-true e n z, r)) (λ z. rw z (and_false (p e)))))))
+    (λ r. rw (q, r) (keep_none_on (λ e. p e && eqb e n) es (λ e o. split (eqb e n) (λ z. rw (eqb-true e n z, r)) (λ z. rw z (and-false (p e)))))))
     (λ q. rw q (keep-gone p n es (rw q at (x n))))
 
 -- "by ascending slot": those in use that pass
@@ -104,7 +104,7 @@ upto-more f n b q h e = fun_ext (λ x. rw (h x, e))
 -- one more that passes nowhere
 pub upto-less : {A : Type 0} (f : A → ℕ → Bool) (n : ℕ) (b : Bool) (q : A → Bool) → ((x : A) → f x n ≡ b && q x) → b ≡ false → ◌≡◌ {A = A → Bool} (λ x. upto (f x) n) (λ x. upto (f x) (suc n))
 unfolding upto
-upto-less f n b q h e = fun_ext (λ x. rw (h x, e) (sym (or_false (upto (f x) n))))
+upto-less f n b q h e = fun_ext (λ x. rw (h x, e) (sym (or-false (upto (f x) n))))
 
 -- where one does
 pub upto_yes : (f : ℕ → Bool) (i n : ℕ) → i < n → f i ≡ true → upto f n ≡ true
@@ -113,7 +113,7 @@ upto_yes f i zero l q = absurd (omega arith)
 upto_yes f i (suc n) l q =
     elim (dec_lt i n) [
       | yes o ↦ rw (upto_yes f i n o q)
-      | no o ↦ let e : i ≡ n = omega arith in rw (rw e at q) (or_true (upto f n))
+      | no o ↦ let e : i ≡ n = omega arith in rw (rw e at q) (or-true (upto f n))
     ]
 
 -- where none does

@@ -3,14 +3,14 @@ use Prim.Native.Nat.{ℕ, suc, ◌+◌, ◌-◌, ◌<◌}
 use native.Mathlib.Omega.{arith}
 use mathlib.Core.Path.{◌≡◌, refl, sym, ap, ◌∙◌}
 use mathlib.Core.Logic.{◌⊎◌, inl, inr, ⊎_elim}
-use mathlib.Core.Bool.{and_comm, or_comm, or_true, or_false, Bool, true, false, cond, not, ◌&&◌, ◌||◌}
+use mathlib.Core.Bool.{and_comm, or_comm, or-true, or-false, Bool, true, false, cond, not, ◌&&◌, ◌||◌}
 use mathlib.Core.List.{List, [], ◌∷◌, ◌++◌, map}
 use mir.Val.{bool_byte}
 use native.Mathlib.Decide.{ℕ_discrete, dec_lt}
 use lib.ListN.{length, get_or, set, get_or-eq_default}
 use lib.Seq.{get_or-set_same, get_or-set_other}
 use lib.Dec.{eqb, ltb}
-use borrow.Author.Tests.{eqb-true, eqb_false, eq-eqb, ne_eqb, ltb-true, lt-ltb, le-ltb, not-true}
+use borrow.Author.Tests.{eqb-true, eqb-false, eq-eqb, ne_eqb, ltb-true, lt-ltb, le-ltb, not-true}
 use Rattle.ledger.specs.Reckon.{worn_by}
 use Rattle.pools.specs.Pool.{occurs, Exact}
 use Rattle.pools.specs.Lists.{keep}
@@ -212,7 +212,7 @@ below words v n e = ltb e n && eqb (get_or words e 0) v
 
 -- what is not n is below n + 1 where it is below n
 pub step : (n e : ℕ) → eqb e n ≡ false → ltb e (suc n) ≡ ltb e n
-step n e z = same_bool (ltb e (suc n)) (ltb e n) (λ r. lt-ltb e n (omega (arith, ltb-true e (suc n) r, eqb_false e n z))) (λ r. lt-ltb e (suc n) (omega (arith, ltb-true e n r)))
+step n e z = same_bool (ltb e (suc n)) (ltb e n) (λ r. lt-ltb e n (omega (arith, ltb-true e (suc n) r, eqb-false e n z))) (λ r. lt-ltb e (suc n) (omega (arith, ltb-true e n r)))
 
 -- none is below 0
 pub below_none : (words : List ℕ) (v e : ℕ) → below words v 0 e ≡ false
@@ -222,8 +222,8 @@ below_none words v e = rw (le-ltb e 0 (omega arith))
 pub below_yes : (words : List ℕ) (v n : ℕ) → eqb (get_or words n 0) v ≡ true → (e : ℕ) → below words v n e || eqb e n ≡ below words v (suc n) e
 below_yes words v n q e =
     split (eqb e n)
-    (λ z. let y : e ≡ n = eqb-true e n z in rw (z, y, q, lt-ltb n (suc n) (omega arith)) (or_true (ltb n n && true)))
-    (λ z. rw (z, step n e z) (or_false (below words v n e)))
+    (λ z. let y : e ≡ n = eqb-true e n z in rw (z, y, q, lt-ltb n (suc n) (omega arith)) (or-true (ltb n n && true)))
+    (λ z. rw (z, step n e z) (or-false (below words v n e)))
 
 -- one more, which is none of them
 pub below_no : (words : List ℕ) (v n : ℕ) → eqb (get_or words n 0) v ≡ false → (e : ℕ) → below words v n e ≡ below words v (suc n) e

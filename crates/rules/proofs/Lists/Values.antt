@@ -9,7 +9,7 @@ use mathlib.Core.List.{List, [], ◌∷◌, ◌++◌, map, map-append}
 use lib.ListN.{length, get_or, take, drop, length-append, get_or-append}
 use lib.Dec.{eqb, ltb}
 use lib.Seq.{take-suc, get_or-append-add, get_or_at}
-use borrow.Author.Tests.{eqb-true, eqb_false, le-ltb, lt-ltb, ltb-true, ltb-false}
+use borrow.Author.Tests.{eqb-true, eqb-false, le-ltb, lt-ltb, ltb-true, ltb-false}
 use Rattle.ledger.specs.Lists.{those}
 use Rattle.pools.specs.Pool.{Exact, occurs}
 use Rattle.pools.specs.Lists.{keep, without}
@@ -55,7 +55,7 @@ up_to_exact (suc n) i =
     ∙ rw (up_to_exact n i)
     (split (eqb n i)
     (λ q. let e = eqb-true n i q in rw (q, le-ltb i n (omega arith), lt-ltb i (suc n) (omega arith)))
-    (λ q. let e = eqb_false n i q in rw q (split (ltb i n)
+    (λ q. let e = eqb-false n i q in rw q (split (ltb i n)
     (λ p. let h = ltb-true i n p in rw (p, lt-ltb i (suc n) (omega arith)))
     (λ p. let h = ltb-false i n p in rw (p, le-ltb i (suc n) (omega (arith, e)))))))
 

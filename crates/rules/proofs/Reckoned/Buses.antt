@@ -3,11 +3,11 @@ use Prim.Native.Nat.{ℕ, suc, ◌+◌, ◌-◌, ◌/◌, ◌%◌, ◌≤◌, �
 use native.Mathlib.Omega.{arith}
 use native.Mathlib.Numerals.{add-one}
 use mathlib.Core.Path.{◌≡◌, refl, sym, ap, ap₂, subst, ◌∙◌}
-use mathlib.Core.Bool.{Bool, true, false, not, ◌&&◌, and_false, not-not}
+use mathlib.Core.Bool.{Bool, true, false, not, ◌&&◌, and-false, not-not}
 use mathlib.Core.List.{List, [], ◌∷◌, map, map-id}
 use lib.ListN.{length, get_or, length-map}
 use lib.Dec.{eqb, ltb, leb}
-use borrow.Author.Tests.{eqb-true, eqb_false, eq-eqb, ne_eqb, le-leb, leb-true, leb-false, ltb-true, ltb-false, lt-ltb, not-false}
+use borrow.Author.Tests.{eqb-true, eqb-false, eq-eqb, ne_eqb, le-leb, leb-true, leb-false, ltb-true, ltb-false, lt-ltb, not-false}
 use Rattle.ledger.specs.Call.Op.{bus, publish, read, subscribe, unsubscribe}
 use Rattle.ledger.specs.Ledger.{Ledger, Value}
 use Rattle.ledger.specs.Lists.{but_first, those}
@@ -134,7 +134,7 @@ module _ (k : Caps) (l : Ledger) (s : State) (g : Good k s) (r : Agrees k l s) w
         rw (h, keep-same_on (λ i. p i && q i) (λ i. eqb i (seat_at b n)) seats (λ i o. one_seat i n m))
         (sym (occurs-map (seat_at b n) (λ i. i) seats) ∙ rw (map-id seats) (r.buses.all_seats (seat_at b n))))
         (λ h. let m = ltb-false n MOST-SEATS h in
-        rw (h, keep_none_on (λ i. p i && q i) seats (λ i o. rw (ne_eqb (i % MOST-SEATS) n (λ z. omega arith)) (and_false (p i)))))
+        rw (h, keep_none_on (λ i. p i && q i) seats (λ i o. rw (ne_eqb (i % MOST-SEATS) n (λ z. omega arith)) (and-false (p i)))))
       where
         -- seat n of bus b is one of all
         one_seat : (i n : ℕ) → n < MOST-SEATS → eqb (i / MOST-SEATS) b && eqb (i % MOST-SEATS) n ≡ eqb i (seat_at b n)
@@ -159,7 +159,7 @@ module _ (k : Caps) (l : Ledger) (s : State) (g : Good k s) (r : Agrees k l s) w
         past : (n : ℕ) → at s BUS-SEATS b ≤ n → ltb n MOST-SEATS && not (eqb (in_seat s b n) 0) ≡ false
         past n h =
             split (ltb n MOST-SEATS)
-            (λ q. rw q (split (eqb (in_seat s b n) 0) (λ z. rw z) (λ z. absurd (omega (arith, seat_below g b n (omega (arith, buses-fit g)) (ltb-true n MOST-SEATS q) (eqb_false (in_seat s b n) 0 z))))))
+            (λ q. rw q (split (eqb (in_seat s b n) 0) (λ z. rw z) (λ z. absurd (omega (arith, seat_below g b n (omega (arith, buses-fit g)) (ltb-true n MOST-SEATS q) (eqb-false (in_seat s b n) 0 z))))))
             (λ q. rw q)
 
     -- it has all the subscribers that it can have
@@ -208,7 +208,7 @@ unsubscribe_agrees b k s l g r p =
     let n = seat_of s b (runner s) in
     let there = not-false (sits s b (runner s)) (second_passed p) in
     subst (λ (id : ℕ). Agrees k (end_readers (is_reader b id) l) (stand_up k s b n)) (sym (running_is k s g l r p.0))
-    (stand_up_agrees k l s g r b n (sits-bus s b (runner s) there k g (eqb_false (runner s) 0 p.0)) (sits_seat s b (runner s) there) (runner s - 1)
+    (stand_up_agrees k l s g r b n (sits-bus s b (runner s) there k g (eqb-false (runner s) 0 p.0)) (sits_seat s b (runner s) there) (runner s - 1)
     (runner-alive k s g p.0) (sits-there s b (runner s) there ∙ sym (runner-up s p.0)))
 
 -- ---- a bus is made
@@ -286,7 +286,7 @@ read_agrees b room k s l g r p =
     (λ q. let jl = ltb-true j (head s ISSUED) q in
     rw q (subst (λ (vs : List Value). Agrees k (reading b l.people.running vs l) (read_off s b n j)) (sym (run_oldest k l s g r b h jl))
     (subst (λ (id : ℕ). Agrees k (reading b id (value_said s r.buses.rank (value_at s j) ∷ []) l) (read_off s b n j)) (sym run)
-    (read_off_agrees k l s g r b n a j there (sits-bus s b (runner s) sit k g (eqb_false (runner s) 0 h)) (sits_seat s b (runner s) sit) (sits-there s b (runner s) sit ∙ sym up) jl
+    (read_off_agrees k l s g r b n a j there (sits-bus s b (runner s) sit k g (eqb-false (runner s) 0 h)) (sits_seat s b (runner s) sit) (sits-there s b (runner s) sit ∙ sym up) jl
     (subst (λ (i : ℕ). i < head s ISSUED → is_unread s b n i ≡ true) (sym low) (lowest-at (is_unread s b n) (head s ISSUED)) jl)
     (λ i m. lowest-first (is_unread s b n) (head s ISSUED) i (omega arith))))))
     (λ q. rw q r)

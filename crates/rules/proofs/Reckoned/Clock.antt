@@ -6,7 +6,7 @@ use mathlib.Core.Bool.{true, false, not, ◌&&◌, ◌||◌}
 use mathlib.Core.List.{[], ◌∷◌}
 use lib.ListN.{length}
 use lib.Dec.{eqb, ltb, leb}
-use borrow.Author.Tests.{eqb-true, eqb_false, leb-true, ltb-false, not-true}
+use borrow.Author.Tests.{eqb-true, eqb-false, leb-true, ltb-false, not-true}
 use Rattle.ledger.specs.Call.Op.{advance}
 use Rattle.ledger.specs.Ledger.{Ledger, time}
 use Rattle.ledger.specs.Reckon.{due_now, entered, fires, firing, firings, later, rearmed, sent, soonest, tick}
@@ -66,7 +66,7 @@ module _ (k : Caps) (t : Ticks k) (c : ℕ) where
 
     -- there is one
     found : next_due k s ≡ 0 → ⊥
-    found = eqb_false (next_due k s) 0 (not-true (eqb (next_due k s) 0) (and_left (not (eqb (next_due k s) 0)) (has_room k s) q))
+    found = eqb-false (next_due k s) 0 (not-true (eqb (next_due k s) 0) (and_left (not (eqb (next_due k s) 0)) (has_room k s) q))
 
     -- it is one, and in use
     pub fires-at : (i < k.timers) × (at s TIMER-OWNER i ≡ 0 → ⊥) × (leb (at s DUE i) (head s CLOCK) ≡ true)

@@ -4,7 +4,7 @@ use native.Mathlib.Omega.{arith}
 use native.Mathlib.Decide.{dec_lt, ℕ_discrete}
 use mathlib.Core.Path.{◌≡◌, refl, sym, ap, ap₂, subst, ◌∙◌}
 use mathlib.Core.Logic.{◌⊎◌, inl, inr, ⊎_elim}
-use mathlib.Core.Bool.{Bool, true, false, cond, not, ◌&&◌, ◌||◌, and_false}
+use mathlib.Core.Bool.{Bool, true, false, cond, not, ◌&&◌, ◌||◌, and-false}
 use mathlib.Core.List.{List, [], ◌∷◌, ◌++◌, map, map-map, append_assoc, append-nil}
 use lib.ListN.{length, get_or, take, length-append}
 use lib.Seq.{length-take-le, take_all, take-append-le}
@@ -301,7 +301,7 @@ by_slots {A} F n thing things id tell p used q es are all here there few =
     ∙ map-map tell thing (by_slot (λ e. id (thing e) % F) F (keep q es))
     ∙ ap (map f) (slot_rows (λ e. id (thing e) % F) used q es all (λ e o. (here e o).1) F)
     ∙ map_rows f (λ e. used e && q e) (λ e. e) F
-    ∙ rows_same (λ e. used e && q e) q f f F (λ e h. split (q e) (λ y. rw (y, (there e y).0)) (λ y. rw y (and_false (used e)))) (λ e h. refl)
+    ∙ rows_same (λ e. used e && q e) q f f F (λ e h. split (q e) (λ y. rw (y, (there e y).0)) (λ y. rw y (and-false (used e)))) (λ e h. refl)
     ∙ rows-past q f n F few (λ e h. split (q e) (λ y. absurd (omega (arith, (there e y).1))) (λ y. y))
 
 -- tests that say the same of the things in a list of slots leave the same
@@ -369,7 +369,7 @@ module _ (k : Caps) (s : State) (l : Ledger) (g : Good k s) (r : Agrees k l s) (
       (λ q. rw (p, q) (gone_with e (at s LINK-ONE e - 1) u.1 u.0 h.one_lives (rw (one, p, q, eq-eqb (at s LINK-ONE e) (at s LINK-ONE e) refl))))
       (λ q. rw (p, q) (upto_no (λ d. linked_to k s a d && Reckon.between (actor_id s a) (actor_id s d) (link_at s e)) k.actors (λ d m.
       split (linked_to k s a d)
-      (λ f. rw f (bond_joins k l s g r a d e there (link_found k s a d g f).2 u.0 u.1 ∙ rw (p, q) (and_false (eqb (at s LINK-ONE e) (suc d)))))
+      (λ f. rw f (bond_joins k l s g r a d e there (link_found k s a d g f).2 u.0 u.1 ∙ rw (p, q) (and-false (eqb (at s LINK-ONE e) (suc d)))))
       (λ f. rw f))))))
 
   -- the links that are left
@@ -389,7 +389,7 @@ module _ (k : Caps) (s : State) (l : Ledger) (g : Good k s) (r : Agrees k l s) (
       split (seen_by s a e)
       (λ q. rw q (upto_yes (λ i. seen_by s a i && eqb (monitor_id s e) (monitor_id s i)) e k.monitors u.1 (rw (q, same e u.1) (eq-eqb e e refl))))
       (λ q. rw q (upto_no (λ i. seen_by s a i && eqb (monitor_id s e) (monitor_id s i)) k.monitors (λ i m. rw (same i m)
-      (split (eqb e i) (λ z. rw (z, ← eqb-true e i z, q)) (λ z. rw z (and_false (seen_by s a i)))))))
+      (split (eqb e i) (λ z. rw (z, ← eqb-true e i z, q)) (λ z. rw z (and-false (seen_by s a i)))))))
 
   -- the monitors that are left
   pub eyes_stay : those (λ m. not (eqb m.target (actor_id s a))) l.ties.monitors ≡ those (λ m. not (eye_gone s a k.monitors m)) l.ties.monitors

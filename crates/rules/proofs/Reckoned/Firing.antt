@@ -7,7 +7,7 @@ use mathlib.Core.Bool.{Bool, true, false, not, ◌&&◌}
 use mathlib.Core.List.{List, [], ◌∷◌, map}
 use lib.ListN.{length, get_or, drop, length-append}
 use lib.Dec.{eqb, leb, ltb}
-use borrow.Author.Tests.{eqb-true, eqb_false, eq-eqb, ltb-true, lt-leb, lt-ltb}
+use borrow.Author.Tests.{eqb-true, eqb-false, eq-eqb, ltb-true, lt-leb, lt-ltb}
 use Rattle.ledger.specs.Ledger.{Ledger, Timer}
 use Rattle.ledger.specs.Limits.{TIMER-FACTOR}
 use Rattle.ledger.specs.Lists.{first, some, those, total}
@@ -105,7 +105,7 @@ redue-due clock id (u ∷ ts) h =
     (λ z. let n : some (λ u. eqb u.id id && eqb u.interval 0) ts ≡ false = rw (q, z) at h in
     let i = redue-due clock id ts n in
     let next = (due_again clock u).due in
-    let w : leb next clock ≡ false = lt-leb next clock (steps-past clock u.interval (suc clock) u.due (eqb_false u.interval 0 z) (omega arith)) in
+    let w : leb next clock ≡ false = lt-leb next clock (steps-past clock u.interval (suc clock) u.due (eqb-false u.interval 0 z) (omega arith)) in
     split (leb u.due clock) (λ d. rw (q, w, d, q) i) (λ d. rw (q, w, d) i)))
     (λ q. let n : some (λ u. eqb u.id id && eqb u.interval 0) ts ≡ false = rw q at h in
     let i = redue-due clock id ts n in

@@ -3,12 +3,12 @@ use Prim.Native.Nat.{ℕ, zero, suc, ◌+◌, ◌-◌, ◌*◌, ◌/◌, ◌%◌
 use native.Mathlib.Nat.{le_of_suc-le-suc}
 use native.Mathlib.Omega.{arith}
 use mathlib.Core.Path.{◌≡◌, refl, sym, ap, ap₂, ◌∙◌, fun_ext}
-use mathlib.Core.Bool.{Bool, true, false, not, ◌&&◌, ◌||◌, not-not, and_true as and_yes}
+use mathlib.Core.Bool.{Bool, true, false, not, ◌&&◌, ◌||◌, not-not, and-true as and_yes}
 use mathlib.Core.List.{List, [], ◌∷◌, ◌++◌, map, map-append}
 use mir.Val.{bool_byte}
 use lib.ListN.{length, get_or, length-append, length-map, get_or-eq_default}
 use lib.Dec.{eqb, ltb, lit<}
-use borrow.Author.Tests.{eqb-true, eqb_false, eq-eqb, ne_eqb, ltb-true, lt-ltb, le-ltb, not-false, not-true}
+use borrow.Author.Tests.{eqb-true, eqb-false, eq-eqb, ne_eqb, ltb-true, lt-ltb, le-ltb, not-false, not-true}
 use Rattle.ledger.specs.Lists.{those, some, first, but_first, by_slot, total}
 use Rattle.ledger.specs.Ledger.{Ledger}
 use Rattle.ledger.specs.Room.{actors_left, datas_left, holds, idle, known, links_left, mails_left, messages_left, monitors_left, timers_left, aged_left, holdings}
@@ -16,7 +16,7 @@ use Rattle.pools.specs.Pool.{count, lowest, occurs, Exact}
 use Rattle.pools.specs.Bits.{free}
 use Rattle.pools.specs.Lists.{keep, without}
 use Rattle.pools.specs.Slot.{id_of, is_live, slot_of, unused}
-use Rattle.pools.proofs.BoolLaws.{split, true_false, and_left, and_right, and_true, flag_eq, neither}
+use Rattle.pools.proofs.BoolLaws.{split, true_false, and_left, and_right, and-true, flag_eq, neither}
 use Rattle.pools.proofs.PoolLaws.{none_iff, room_iff}
 use Rattle.pools.proofs.ListLaws.{occurs-append, occurs_get_d, occurs-head, occurs-once, occurs-place, occurs_tail}
 use Rattle.pools.proofs.ExactLaws.{exact_free, exact_used}
@@ -125,7 +125,7 @@ first-only p es e o w =
 
 -- ---- what stands in a list of all that are in use is in use
 pub listed_in : (words es : List ℕ) → Exact es (λ i. not (unused words i)) → (e : ℕ) → 0 < occurs e es → get_or words e 0 ≡ 0 → ⊥
-listed_in words es x e o = eqb_false (get_or words e 0) 0 (not-true (unused words e) (exact_used (λ i. not (unused words i)) es e x o))
+listed_in words es x e o = eqb-false (get_or words e 0) 0 (not-true (unused words e) (exact_used (λ i. not (unused words i)) es e x o))
 
 -- and has a word
 pub listed_used : (words es : List ℕ) (n : ℕ) → length words ≡ n → Exact es (λ i. not (unused words i)) → (e : ℕ) → 0 < occurs e es → (get_or words e 0 ≡ 0 → ⊥) × (e < n)
@@ -143,12 +143,12 @@ live_some F words ages es p id f b x =
     (λ q. let y = and_left t (p j) q in
     let o : 0 < occurs j es = rw (x j, ne_eqb (get_or words j 0) 0 (of_live F words ages id y).0) (omega arith) in
     some_yes (λ i. eqb (id_of F (get_or ages i 0) i) id && p i) es j o
-    (and_true (eqb (id_of F (get_or ages j 0) j) id) (p j) (eq-eqb (id_of F (get_or ages j 0) j) id (sym (live_is F words ages id f y))) (and_right t (p j) q)) ∙ sym q)
+    (and-true (eqb (id_of F (get_or ages j 0) j) id) (p j) (eq-eqb (id_of F (get_or ages j 0) j) id (sym (live_is F words ages id f y))) (and_right t (p j) q)) ∙ sym q)
     (λ q. some_no (λ i. eqb (id_of F (get_or ages i 0) i) id && p i) es (λ i o.
     split (eqb (id_of F (get_or ages i 0) i) id)
     (λ e. let z = eqb-true (id_of F (get_or ages i 0) i) id e in
     let u : j ≡ i = ap (slot_of F) (sym z) ∙ slot_of_id F (get_or ages i 0) i (b i o) in
-    let d = eqb_false (get_or words i 0) 0 (not-true (unused words i) (exact_used (λ i. not (unused words i)) es i x o)) in
+    let d = eqb-false (get_or words i 0) 0 (not-true (unused words i) (exact_used (λ i. not (unused words i)) es i x o)) in
     let y : t ≡ true = ap (is_live F words ages) (sym z) ∙ live_id F words ages i (b i o) d in
     let w : p j ≡ false = rw y at q in
     rw e (ap p (sym u) ∙ w))
@@ -184,11 +184,11 @@ module _ (k : Caps) (s : State) (g : Good k s) where
 
   -- the same where somebody runs
   pub runner-runs : eqb (runner s) 0 ≡ false → (runner s - 1 < k.actors) × (at s STATE (runner s - 1) ≡ RUNS)
-  runner-runs q = runs-at (runner s - 1) (omega (arith, eqb_false (runner s) 0 q))
+  runner-runs q = runs-at (runner s - 1) (omega (arith, eqb-false (runner s) 0 q))
 
   -- who is alive
   pub runner-alive : eqb (runner s) 0 ≡ false → alive (s STATE) (runner s - 1) ≡ true
-  runner-alive q = runs-alive (runner s - 1) (omega (arith, eqb_false (runner s) 0 q))
+  runner-alive q = runs-alive (runner s - 1) (omega (arith, eqb-false (runner s) 0 q))
 
   -- a live slot is another's than an id that is nobody's
   pub stranger : (id : ℕ) → is_actor s id ≡ false → (a : ℕ) → alive (s STATE) a ≡ true → eqb (actor_id s a) id ≡ false
@@ -306,7 +306,7 @@ pool_left P k s {thing = thing} {worn = worn} x y old a =
     young true age h =
         split (eqb age OLDEST)
         (λ q. rw (q, le-ltb age OLDEST (omega (arith, eqb-true age OLDEST q))))
-        (λ q. rw (q, lt-ltb age OLDEST (omega (arith, eqb_false age OLDEST q))))
+        (λ q. rw (q, lt-ltb age OLDEST (omega (arith, eqb-false age OLDEST q))))
 
 -- bits: those taken and those free are all
 pub bits_left : (n : ℕ) (f : ℕ → Bool) (es : List ℕ) → Exact es (λ e. ltb e n && not (f e)) → length es + count f n ≡ n
@@ -325,7 +325,7 @@ pub room_same : (f : ℕ → Bool) (n left : ℕ) → count f n ≡ left → ltb
 room_same f n left e =
     split (eqb left 0)
     (λ q. rw q (le-ltb (lowest f n) n (omega (arith, (none_iff f n).1 (e ∙ eqb-true left 0 q)))))
-    (λ q. rw q (lt-ltb (lowest f n) n ((room_iff f n).1 (omega (arith, eqb_false left 0 q)))))
+    (λ q. rw q (lt-ltb (lowest f n) n ((room_iff f n).1 (omega (arith, eqb-false left 0 q)))))
 
 -- and none can where nothing is
 pub full-same : (f : ℕ → Bool) (n left : ℕ) → count f n ≡ left → not (ltb (lowest f n) n) ≡ eqb left 0
@@ -381,7 +381,7 @@ module _ (k : Caps) (s : State) (g : Good k s) (l : Ledger) (r : Agrees k l s) w
   pub room_some : has_room k s ≡ true → messages_left l ≡ 0 → ⊥
   room_some q z =
       let n = neither (eqb (mails_left l) 0) (eqb (datas_left l) 0) (not-true (eqb (mails_left l) 0 || eqb (datas_left l) 0) (sym message_room ∙ q)) in
-      omega (arith, eqb_false (mails_left l) 0 n.0, eqb_false (datas_left l) 0 n.1)
+      omega (arith, eqb-false (mails_left l) 0 n.0, eqb-false (datas_left l) 0 n.1)
 
   -- there is none, and none is left
   pub room_none : has_room k s ≡ false → messages_left l ≡ 0

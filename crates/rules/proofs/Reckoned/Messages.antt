@@ -3,13 +3,13 @@ use Prim.Native.Nat.{ℕ, zero, suc, ◌+◌, ◌-◌, ◌≤◌, ◌<◌}
 use native.Mathlib.Omega.{arith}
 use native.Mathlib.Numerals.{add-one}
 use mathlib.Core.Path.{◌≡◌, refl, sym, ap, ap₂, subst, ◌∙◌}
-use mathlib.Core.Bool.{Bool, true, false, not, ◌&&◌, ◌||◌, and_false, and_true, not-not}
+use mathlib.Core.Bool.{Bool, true, false, not, ◌&&◌, ◌||◌, and-false, and-true, not-not}
 use mathlib.Core.List.{List, [], ◌∷◌, ◌++◌, map, map-append}
 use lib.ListN.{length, get_or, set, drop, length-map}
 use lib.Seq.{get_or-take, take_at, take-suc-set}
 use lib.IntN.{ℤ}
 use lib.Dec.{eqb, ltb, leb, lit<}
-use borrow.Author.Tests.{eqb-true, eqb_false, eq-eqb, leb-false, ltb-true, ltb-false, ne_eqb, not-true, not-false}
+use borrow.Author.Tests.{eqb-true, eqb-false, eq-eqb, leb-false, ltb-true, ltb-false, ne_eqb, not-true, not-false}
 use Rattle.ledger.specs.Lists.{those, first, but_first}
 use Rattle.ledger.specs.Ledger.{Ledger, Message, Says, mail, with_mail}
 use Rattle.ledger.specs.Call.Call.{op}
@@ -157,8 +157,8 @@ module _ (k : Caps) (s : State) (l : Ledger) (g : Good k s) (r : Agrees k l s) (
         (those (λ m. not (eqb m.to (actor_id s a))) l.mail.hands) (keep (λ b. not (eqb b a)) r.mail.palms)
         (exact_keep (λ b. not (unused (s HAND) b)) (λ b. not (unused (set (s HAND) a 0) b)) r.mail.palms (λ b. not (eqb b a)) r.mail.all_palms (λ b.
         each_set (λ b. not (unused (set (s HAND) a 0) b) ≡ not (unused (s HAND) b) && not (eqb b a)) a b
-        (rw (set-zero (s HAND) a, eq-eqb a a refl) (sym (and_false (not (unused (s HAND) a)))))
-        (λ v. rw (other (s HAND) a 0 b v, v) (sym (and_true (not (unused (s HAND) b)))))))
+        (rw (set-zero (s HAND) a, eq-eqb a a refl) (sym (and-false (not (unused (s HAND) a)))))
+        (λ v. rw (other (s HAND) a 0 b v, v) (sym (and-true (not (unused (s HAND) b)))))))
         (hands_left ∙ hands_kept k s t HAND a y refl (keep (λ b. not (eqb b a)) r.mail.palms) (λ b o.
         let p = keep_in (λ b. not (eqb b a)) r.mail.palms b o in
         let v : eqb b a ≡ false = not-true (eqb b a) p.1 in
@@ -173,7 +173,7 @@ module _ (k : Caps) (s : State) (l : Ledger) (g : Good k s) (r : Agrees k l s) (
       (hands_left ∙ ap (map (hand_at s)) (keep-all_on (λ b. not (eqb b a)) r.mail.palms
       (λ b o. rw (ne_eqb b a (λ e. let n = rw e at (owner_some (s HAND) r.mail.palms r.mail.all_palms b o) in
       omega (arith, n, eqb-true (at s HAND a) 0 q))))))))
-      (λ q. let n = eqb_false (at s HAND a) 0 q in
+      (λ q. let n = eqb-false (at s HAND a) 0 q in
       rw (q, unfill_is s (at s HAND a - 1)) (let_agrees (at s HAND a - 1) (omega arith) (wipe (s PAYLOAD) (at s HAND a - 1))
       (wipe_is k s (at s HAND a - 1) g.sized (owner_below (owned k s g) HAND a refl (at s HAND a - 1) (omega arith)))))
 
@@ -494,7 +494,7 @@ pub receive_agrees : (sender class tag : ℕ) (wait : ℤ) → Agreed (receive s
 unfolding release
 receive_agrees sender class tag wait k s l g r p =
     let a = runner s - 1 in
-    let n = eqb_false (runner s) 0 p.0 in
+    let n = eqb-false (runner s) 0 p.0 in
     let b : runner s - 1 < k.actors = omega (arith, runner-fits g) in
     receive_bare_agrees sender class tag wait k (let_go s a) l a (let_go_keeps k s a g b)
     (subst (λ (id : ℕ). Agrees k (handless id l) (let_go s a)) (sym (running_is k s g l r p.0)) (let_go_agrees_at k s l g r a (runner-alive k s g p.0)))

@@ -2,12 +2,12 @@
 use Prim.Native.Nat.{ℕ, zero, suc, ◌+◌, ◌-◌, ◌/◌, ◌%◌, ◌≤◌, ◌<◌}
 use native.Mathlib.Omega.{arith}
 use mathlib.Core.Path.{◌≡◌, refl, sym, ap, subst, ◌∙◌, fun_ext}
-use mathlib.Core.Bool.{Bool, true, false, cond, not, ◌&&◌, and_false, and_true as and_yes}
+use mathlib.Core.Bool.{Bool, true, false, cond, not, ◌&&◌, and-false, and-true as and_yes}
 use mathlib.Core.List.{List, [], ◌∷◌, ◌++◌, map}
 use lib.ListN.{length, get_or, set}
 use lib.Seq.{get_or-set_same}
 use lib.Dec.{eqb, ltb, lit<}
-use borrow.Author.Tests.{eqb-true, eqb_false, eq-eqb, ne_eqb, lt-ltb, le-ltb, lt-leb}
+use borrow.Author.Tests.{eqb-true, eqb-false, eq-eqb, ne_eqb, lt-ltb, le-ltb, lt-leb}
 use Rattle.ledger.specs.Lists.{some, those}
 use Rattle.ledger.specs.Ledger.{Ledger, Reader}
 use Rattle.ledger.specs.Reckon.{end_readers, joined, with_readers}
@@ -15,7 +15,7 @@ use Rattle.ledger.specs.Room.{is_reader, subscribed}
 use Rattle.pools.specs.Bits.{cleared}
 use Rattle.pools.specs.Lists.{keep}
 use Rattle.pools.specs.Slot.{id_of}
-use Rattle.pools.proofs.BoolLaws.{and_left, and_right, and_true, same_bool, split}
+use Rattle.pools.proofs.BoolLaws.{and_left, and_right, and-true, same_bool, split}
 use Rattle.pools.proofs.BitLaws.{cleared-other}
 use Rattle.pools.proofs.ListLaws.{keep-all_on, keep-keep, keep-same_on}
 use Rattle.pools.proofs.PoolLaws.{count_same}
@@ -57,7 +57,7 @@ module _ (k : Caps) (l : Ledger) (s : State) (g : Good k s) (r : Agrees k l s) (
       let z = seat_once g b (i % MOST-SEATS) n bl (omega arith) nl (λ w. omega arith) (ap (at s SEAT) (sym here) ∙ y ∙ sym e) in
       eq-eqb i (seat_at b n) (omega arith))
       (λ q. let z = eqb-true i (seat_at b n) q in
-      and_true _ _ (eq-eqb (i / MOST-SEATS) b (omega arith)) (eq-eqb (at s SEAT i) (suc a) (ap (at s SEAT) z ∙ e)))
+      and-true _ _ (eq-eqb (i / MOST-SEATS) b (omega arith)) (eq-eqb (at s SEAT i) (suc a) (ap (at s SEAT) z ∙ e)))
 
   -- where it sits nowhere on the bus, it is none
   pub reader_none : sits s b (suc a) ≡ false → (i : ℕ) → (at s SEAT i ≡ 0 → ⊥) → is_reader b (actor_id s a) (reader_at s r.buses.cursor i) ≡ false
@@ -80,13 +80,13 @@ module _ (k : Caps) (l : Ledger) (s : State) (g : Good k s) (r : Agrees k l s) (
       let e = sits-there s b (suc a) q in
       let u : at s SEAT (seat_at b n) ≡ 0 → ⊥ = λ z. omega arith in
       rw q (sym (some_yes (λ i. p (f i)) r.buses.seats (seat_at b n) (used_seat k s g l r (seat_at b n) u)
-      (reader_same (seat_at b n) u ∙ and_true _ _ (eq-eqb (seat_at b n / MOST-SEATS) b (omega arith)) (eq-eqb (in_seat s b n) (suc a) e)))))
+      (reader_same (seat_at b n) u ∙ and-true _ _ (eq-eqb (seat_at b n / MOST-SEATS) b (omega arith)) (eq-eqb (in_seat s b n) (suc a) e)))))
       (λ q. rw q (sym (some_no (λ i. p (f i)) r.buses.seats (λ i o. reader_none q i (seat_used k s g l r i o))))))
 
 -- ---- the running actor
 -- its slot, one up
 pub runner-up : (s : State) → eqb (runner s) 0 ≡ false → suc (runner s - 1) ≡ runner s
-runner-up s h = omega (arith, eqb_false (runner s) 0 h)
+runner-up s h = omega (arith, eqb-false (runner s) 0 h)
 
 -- it is subscribed on both sides, or on neither
 pub subscribed-same : (k : Caps) (l : Ledger) (s : State) (g : Good k s) (r : Agrees k l s) (b : ℕ) → eqb (runner s) 0 ≡ false → sits s b (runner s) ≡ subscribed l b
@@ -103,7 +103,7 @@ clear_reads x n =
 
 -- nobody else's
 clear-may : (x n m : ℕ) → eqb m n ≡ false → may_read (cleared x (MOST-SEATS + n)) m ≡ may_read x m
-clear-may x n m q = let d = eqb_false m n q in ap (λ (y : ℕ). eqb y 1) (cleared-other x (MOST-SEATS + n) (MOST-SEATS + m) (λ z. d (omega arith)))
+clear-may x n m q = let d = eqb-false m n q in ap (λ (y : ℕ). eqb y 1) (cleared-other x (MOST-SEATS + n) (MOST-SEATS + m) (λ z. d (omega arith)))
 
 module _ (k : Caps) (s : State) (g : Good k s) (b n : ℕ) where
   -- who reads a data entry once one stood up
@@ -114,7 +114,7 @@ module _ (k : Caps) (s : State) (g : Good k s) (b n : ℕ) where
       ∙ split (eqb (at s VALUE-BUS d) (suc b))
       (λ q. let e = eqb-true (at s VALUE-BUS d) (suc b) q in
       rw (q, lt-ltb d k.datas (omega (arith, used_inside (s VALUE-BUS) d (λ z. omega arith), g.sized.words VALUE-BUS (lit< tt)))))
-      (λ q. rw (q, and_false (ltb d k.datas)))
+      (λ q. rw (q, and-false (ltb d k.datas)))
 
   -- as many have read it
   stood-read : (d : ℕ) → read_by (at (stand_up k s b n) READERS d) ≡ read_by (at s READERS d)
@@ -166,7 +166,7 @@ module _ (k : Caps) (l : Ledger) (s : State) (g : Good k s) (r : Agrees k l s) (
         unread = λ c m d ml u e.
             let p = stood-sits (seat_at c m) u in
             let x : at s VALUE-BUS d ≡ suc c = rw (w.cols VALUE-BUS refl) at e in
-            stood-may k s g b n c m d x (λ y z. eqb_false (seat_at c m) (seat_at b n) p.0 (omega arith)) ∙ v.unread c m d ml p.1 x;
+            stood-may k s g b n c m d x (λ y z. eqb-false (seat_at c m) (seat_at b n) p.0 (omega arith)) ∙ v.unread c m d ml p.1 x;
       })
 
   -- THE THEOREM of one who stands up: the reckoning's subscription of that actor to that bus ends
@@ -210,7 +210,7 @@ ends_next b id l =
   where
     -- below b or b is below b + 1
     both : (c : ℕ) (w : Bool) → not (ltb c b && w) && not (eqb c b && w) ≡ not (ltb c (suc b) && w)
-    both c false = rw (and_false (ltb c b), and_false (eqb c b), and_false (ltb c (suc b)))
+    both c false = rw (and-false (ltb c b), and-false (eqb c b), and-false (ltb c (suc b)))
     both c true =
         split (eqb c b)
         (λ q. let e = eqb-true c b q in rw (q, lt-ltb c (suc b) (omega arith), le-ltb c b (omega arith)))

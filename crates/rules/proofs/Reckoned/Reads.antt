@@ -8,7 +8,7 @@ use mathlib.Core.List.{List, [], ◌∷◌, map, map-map}
 use lib.ListN.{length, get_or, length-map, length-drop}
 use lib.Seq.{length-take-le}
 use lib.Dec.{eqb, ltb, leb}
-use borrow.Author.Tests.{eqb-true, eqb_false, eq-eqb, ne_eqb, le-leb, lt-leb, leb-true, ltb-true, ltb-false, not-true}
+use borrow.Author.Tests.{eqb-true, eqb-false, eq-eqb, ne_eqb, le-leb, lt-leb, leb-true, ltb-true, ltb-false, not-true}
 use Rattle.ledger.specs.Ledger.{Ledger, Reader, Value, buses, with_buses}
 use Rattle.ledger.specs.Lists.{first, some, those}
 use Rattle.ledger.specs.Reckon
@@ -150,7 +150,7 @@ signed-count x n nl q =
     let c = count_change (has_read x) one n MOST-SEATS nl (λ m d. rw (ne_eqb m n d)) in
     count_same one (has_read (signed x n)) MOST-SEATS (λ m h. split (eqb m n)
     (λ z. rw (z, eqb-true m n z, marked-same (cleared x (MOST-SEATS + n)) n))
-    (λ z. rw z (ap (λ (y : ℕ). eqb y 1) (signed-read x n m h (eqb_false m n z)))))
+    (λ z. rw z (ap (λ (y : ℕ). eqb y 1) (signed-read x n m h (eqb-false m n z)))))
     ∙ omega (arith, rw (q, eq-eqb n n refl) at c)
 
 module _ (k : Caps) (l : Ledger) (s : State) (g : Good k s) (r : Agrees k l s) where
@@ -218,7 +218,7 @@ module _ (k : Caps) (l : Ledger) (s : State) (g : Good k s) (r : Agrees k l s) w
           | no y ↦ elim (dec_lt j w.0) [
             | yes z ↦ let more : rank (value_at s j) < rank d = omega (arith, rank_less j w.0 z w.1, ap rank w.2) in
                 r.buses.unread b n d nl read_seat e ∙ le-leb _ (rank d) (omega arith) ∙ sym (le-leb _ (rank d) (omega arith))
-            | no z ↦ absurd (eqb_false d (value_at s j) q (sym w.2 ∙ ap (value_at s) (omega arith)))
+            | no z ↦ absurd (eqb-false d (value_at s j) q (sym w.2 ∙ ap (value_at s) (omega arith)))
           ]
         ]
 
@@ -270,7 +270,7 @@ module _ (k : Caps) (l : Ledger) (s : State) (g : Good k s) (r : Agrees k l s) w
         (λ q. rw q (split (eqb d x)
         (λ y. let d-is = eqb-true d x y in
         let c-is : c ≡ b = omega (arith, read_on, ap (at s VALUE-BUS) d-is) in
-        rw (d-is, read_bits, signed-may (at s READERS x) n m nl (λ z. eqb_false (seat_at c m) (seat_at b n) q (omega arith))) (r.buses.unread c m x ml u (ap (at s VALUE-BUS) (sym d-is) ∙ e)))
+        rw (d-is, read_bits, signed-may (at s READERS x) n m nl (λ z. eqb-false (seat_at c m) (seat_at b n) q (omega arith))) (r.buses.unread c m x ml u (ap (at s VALUE-BUS) (sym d-is) ∙ e)))
         (λ y. rw (other_bits d y) (r.buses.unread c m d ml u e))))
 
     -- THE LAW of a value that is read: the reckoning counts it, and its cursor passes it

@@ -7,7 +7,7 @@ use mathlib.Core.List.{List, [], ◌∷◌, map, map-map}
 use lib.ListN.{length, length-map}
 use lib.Seq.{get_or-set_same}
 use lib.Dec.{eqb, ltb, leb, lit<}
-use borrow.Author.Tests.{eqb-true, eqb_false, eq-eqb, ne_eqb, not-true}
+use borrow.Author.Tests.{eqb-true, eqb-false, eq-eqb, ne_eqb, not-true}
 use Rattle.ledger.specs.Ledger.{Ledger, time, with_time}
 use Rattle.ledger.specs.Lists.{first, some}
 use Rattle.ledger.specs.Reckon.{due_again, due_now, rearmed, redue, sooner, soonest}
@@ -65,7 +65,7 @@ module _ (k : Caps) (s : State) (i : ℕ) (is : i ≡ earliest s TIMER-OWNER DUE
       let q = least-of.passes n in
       let used = not (eqb (at s TIMER-OWNER (i - 1)) 0) in
       let come = leb (at s DUE (i - 1)) (head s CLOCK) in
-      (omega (arith, least-of.within), eqb_false (at s TIMER-OWNER (i - 1)) 0 (not-true (eqb (at s TIMER-OWNER (i - 1)) 0) (and_left used come q)), and_right used come q)
+      (omega (arith, least-of.within), eqb-false (at s TIMER-OWNER (i - 1)) 0 (not-true (eqb (at s TIMER-OWNER (i - 1)) 0) (and_left used come q)), and_right used come q)
 
 -- of a list in which one number alone passes, as many pass as it stands in it
 keep-few : (p : ℕ → Bool) (j : ℕ) (es : List ℕ) → ((e : ℕ) → 0 < occurs e es → p e ≡ true → e ≡ j) → length (keep p es) ≤ occurs j es
@@ -107,7 +107,7 @@ module _ (k : Caps) (l : Ledger) (s : State) (z : Sized k s) (v : InRange k) (a 
       split (eqb (at s INTERVAL i) 0) (λ q. rw q (disarm_agree k l s i z v a m))
       (λ q. rw q
       (subst (λ (c : ℕ). Agrees k (with_time l (time l.time.clock (map (redue c (timer_id s i)) l.time.timers) l.time.worn))
-      (poke s DUE i (next_beat (at s DUE i) (at s INTERVAL i) (head s CLOCK)))) (sym a.time.clock) (redue_agree i m (eqb_false (at s INTERVAL i) 0 q) come)))
+      (poke s DUE i (next_beat (at s DUE i) (at s INTERVAL i) (head s CLOCK)))) (sym a.time.clock) (redue_agree i m (eqb-false (at s INTERVAL i) 0 q) come)))
 
   -- ---- the soonest
   -- of two timers, the tables' and the reckoning's say which comes before
@@ -176,7 +176,7 @@ module _ (k : Caps) (l : Ledger) (s : State) (z : Sized k s) (v : InRange k) (a 
         rw (q, w, ap (λ (x : ℕ). leb (at s DUE x) (head s CLOCK)) y ∙ c.2))
         (λ q. split (leb (at s DUE e) (head s CLOCK))
         (λ r.
-        let x : before (at s DUE (i - 1)) (at s DUE e) (i - 1) e ≡ true = other-before (at s DUE e) (at s DUE (i - 1)) e (i - 1) (eqb_false e (i - 1) q) ((least-of k s i is).first n e m (due-same e o ∙ r)) in
+        let x : before (at s DUE (i - 1)) (at s DUE e) (i - 1) e ≡ true = other-before (at s DUE e) (at s DUE (i - 1)) e (i - 1) (eqb-false e (i - 1) q) ((least-of k s i is).first n e m (due-same e o ∙ r)) in
         let w : some (ahead e) a.time.pool.slots ≡ true = some_yes (ahead e) a.time.pool.slots (i - 1) (least_in n)
         (and_true (leb (at s DUE (i - 1)) (head s CLOCK)) (sooner (timer_at s (i - 1)) (timer_at s e)) c.2 (sooner-same (i - 1) e c.0 m ∙ x)) in
         rw (q, r, w))

@@ -2,12 +2,12 @@
 use Prim.Native.Nat.{ℕ, zero, suc, ◌+◌, ◌-◌, ◌≤◌, ◌<◌, min}
 use native.Mathlib.Omega.{arith}
 use mathlib.Core.Path.{◌≡◌, refl, sym, ap, subst, ◌∙◌}
-use mathlib.Core.Bool.{Bool, true, false, not, or_true}
+use mathlib.Core.Bool.{Bool, true, false, not, or-true}
 use mathlib.Core.List.{List}
 use lib.IntN.{ℤ, pos, negsuc}
 use lib.Seq.{get_or-set_same}
 use lib.Dec.{eqb, ltb, leb, lit<}
-use borrow.Author.Tests.{eqb-true, eqb_false, ltb-true, ltb-false, leb-true, leb-false, le-leb, not-false}
+use borrow.Author.Tests.{eqb-true, eqb-false, ltb-true, ltb-false, leb-true, leb-false, le-leb, not-false}
 use Rattle.ledger.specs.Call.{Answer, number}
 use Rattle.ledger.specs.Call.Answer.{turn}
 use Rattle.ledger.specs.Call.Call.{op}
@@ -53,7 +53,7 @@ module _ (s : State) (used time n : ℕ) where
   some_no : (t : ℕ) → ((i : ℕ) → i < n → due s used time t i ≡ true → ⊥) → some t ≡ false
   some_no t h =
       split (eqb (earliest s used time t n) 0) (λ q. rw q)
-      (λ q. let z = eqb_false (earliest s used time t n) 0 q in absurd (h (earliest s used time t n - 1) (omega (arith, (least_at t).within)) ((least_at t).passes z)))
+      (λ q. let z = eqb-false (earliest s used time t n) 0 q in absurd (h (earliest s used time t n - 1) (omega (arith, (least_at t).within)) ((least_at t).passes z)))
 
   -- the earliest of all, one up
   abbrev soonest : ℕ
@@ -67,7 +67,7 @@ module _ (s : State) (used time n : ℕ) where
   -- before its time none is due
   pub some-before : eqb soonest 0 ≡ false → (t : ℕ) → t < at s time (soonest - 1) → some t ≡ false
   some-before q t h =
-      let z = eqb_false soonest 0 q in
+      let z = eqb-false soonest 0 q in
       some_no t (λ i l d.
       let m = due-time ALWAYS (soonest - 1) ((least_at ALWAYS).passes z) in
       let e = due-time t i d in
@@ -77,7 +77,7 @@ module _ (s : State) (used time n : ℕ) where
   -- and from its time on one is
   pub some-from : eqb soonest 0 ≡ false → (t : ℕ) → at s time (soonest - 1) ≤ t → some t ≡ true
   some-from q t h =
-      let z = eqb_false soonest 0 q in
+      let z = eqb-false soonest 0 q in
       let d = due-from ALWAYS t (soonest - 1) ((least_at ALWAYS).passes z) h in
       split (eqb (earliest s used time t n) 0)
       (λ p. true_false (due s used time t (soonest - 1)) d ((least_at t).none (eqb-true (earliest s used time t n) 0 p) (soonest - 1) (omega (arith, (least_at ALWAYS).within))))
@@ -110,7 +110,7 @@ module _ (k : Caps) (s : State) where
         split (leb x y)
             (λ r. rw (timer p (c + (min x y - c)) (omega (arith, leb-true x y r))))
             (λ r. rw (somebody q (c + (min x y - c)) (omega (arith, leb-false x y r)))
-            (or_true (not (eqb (earliest s TIMER-OWNER DUE (c + (min x y - c)) k.timers) 0)))),
+            (or-true (not (eqb (earliest s TIMER-OWNER DUE (c + (min x y - c)) k.timers) 0)))),
       )))
 
   -- FIRMNESS: no second number is, so it is -1 where nothing ever is to be done

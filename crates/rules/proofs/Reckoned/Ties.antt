@@ -2,12 +2,12 @@
 use Prim.Native.Nat.{ℕ, suc, ◌+◌, ◌-◌, ◌≤◌, ◌<◌}
 use native.Mathlib.Omega.{arith}
 use mathlib.Core.Path.{◌≡◌, refl, sym, ap, ap₂, subst, ◌∙◌}
-use mathlib.Core.Bool.{Bool, true, false, and_false, not, ◌&&◌}
+use mathlib.Core.Bool.{Bool, true, false, and-false, not, ◌&&◌}
 use mathlib.Core.List.{List, [], ◌∷◌, ◌++◌, map}
 use lib.ListN.{get_or, length, set}
 use lib.Seq.{get_or-set_same}
 use lib.Dec.{eqb, ltb, lit<}
-use borrow.Author.Tests.{eqb-true, eqb_false, eq-eqb, ne_eqb, ltb-true, ltb-false, lt-ltb, not-false}
+use borrow.Author.Tests.{eqb-true, eqb-false, eq-eqb, ne_eqb, ltb-true, ltb-false, lt-ltb, not-false}
 use Rattle.ledger.specs.Call.{Op, when}
 use Rattle.ledger.specs.Call.Call.{op}
 use Rattle.ledger.specs.Call.Why.{malformed, full, unknown}
@@ -220,7 +220,7 @@ module _ (k : Caps) (l : Ledger) (s : State) (g : Good k s) (a : Agrees k l s) w
   -- the running actor and another are linked on both sides, or on neither
   pub linked-run : (id : ℕ) → eqb (runner s) 0 ≡ false → is_actor s id ≡ true → linked l l.people.running id ≡ ltb (link_of k s (runner s) (suc (slot_of ACTOR-FACTOR id))) k.links
   linked-run id h r =
-      let up : suc (runner s - 1) ≡ runner s = omega (arith, eqb_false (runner s) 0 h) in
+      let up : suc (runner s - 1) ≡ runner s = omega (arith, eqb-false (runner s) 0 h) in
       ap₂ (λ (i : ℕ) (j : ℕ). linked l i j) (running_is k s g l a h) (live_is ACTOR-FACTOR (s STATE) (s AGE) id (omega arith) r)
       ∙ linked-same (runner s - 1) (slot_of ACTOR-FACTOR id) (runner-alive k s g h) (actor_alive k s g id r)
       ∙ ap (λ (x : ℕ). ltb (link_of k s x (suc (slot_of ACTOR-FACTOR id))) k.links) up
@@ -240,7 +240,7 @@ link_agrees partner k s l g a p =
     ap₂ (λ (i j : ℕ). record { one = i; two = j }) (running_is k s g l a h)
     (live_is ACTOR-FACTOR (s STATE) (s AGE) partner (omega arith) r ∙ ap (actor_id s) (sym (down (slot_of ACTOR-FACTOR partner)))) in
     rw (v, e ∙ v) (subst (λ (x : Link). Agrees k (with_ties l (ties (l.ties.links ++ (x ∷ [])) l.ties.monitors l.ties.worn)) (tie s (link_for k s) (runner s) b)) (sym z)
-    (tie_agrees k l s g a (link_for k s) (runner s) b x (eqb-true (at s LINK-ONE (link_for k s)) 0 (lowest-at (unused (s LINK-ONE)) k.links x)) (eqb_false (runner s) 0 h))))
+    (tie_agrees k l s g a (link_for k s) (runner s) b x (eqb-true (at s LINK-ONE (link_for k s)) 0 (lowest-at (unused (s LINK-ONE)) k.links x)) (eqb-false (runner s) 0 h))))
 
 -- the tests of a call that ties the running actor to another are the reckoning's, where that for room is
 tie-same : (k : Caps) (s : State) (l : Ledger) → Good k s → Agrees k l s → (id : ℕ) (b c : Bool) → (eqb (runner s) 0 ≡ false → is_actor s id ≡ true → b ≡ c) →
@@ -279,7 +279,7 @@ unlink_same partner k s l g a = back-same k s l g a _ _ there
         (λ q. rw (q, a.links.links, some-map (Reckon.between l.people.running partner) (link_at s) a.links.bonds)
         (sym (some_no (λ e. Reckon.between l.people.running partner (link_at s e)) a.links.bonds (λ e o.
         let b = bond_ends k s g l a e o in
-        rw (stranger k s g partner q _ b.0, stranger k s g partner q _ b.1, and_false (eqb (actor_id s (at s LINK-ONE e - 1)) l.people.running))))))
+        rw (stranger k s g partner q _ b.0, stranger k s g partner q _ b.1, and-false (eqb (actor_id s (at s LINK-ONE e - 1)) l.people.running))))))
 
 -- "Either end may take a link back by the partner's id"
 pub unlink_agrees : (partner : ℕ) → Agreed (unlink partner)
@@ -290,7 +290,7 @@ unlink_agrees partner k s l g a p =
     let q = not-false (is_actor s partner && ltb i k.links) (second_passed p) in
     let r = and_left (is_actor s partner) (ltb i k.links) q in
     let m = ltb-true i k.links (and_right (is_actor s partner) (ltb i k.links) q) in
-    let up : suc (runner s - 1) ≡ runner s = omega (arith, eqb_false (runner s) 0 p.0) in
+    let up : suc (runner s - 1) ≡ runner s = omega (arith, eqb-false (runner s) 0 p.0) in
     untie_agrees k l s g a i (Reckon.between l.people.running partner) m (λ d u n.
     ap₂ (λ (x : ℕ) (y : ℕ). Reckon.between x y (link_at s d)) (running_is k s g l a p.0) (live_is ACTOR-FACTOR (s STATE) (s AGE) partner (omega arith) r)
     ∙ subst (λ (x : ℕ). link_of k s x (suc j) < k.links → Reckon.between (runner_id s) (actor_id s j) (link_at s d) ≡ eqb d (link_of k s x (suc j))) up
@@ -349,7 +349,7 @@ monitor_agrees target k s l g a p =
     let z = ap₂ seen (running_is k s g l a p.0)
     (live_is ACTOR-FACTOR (s STATE) (s AGE) target (omega arith) r ∙ ap (actor_id s) (sym (down (slot_of ACTOR-FACTOR target)))) in
     subst (λ (x : Monitor). Agrees k (with_ties l (ties l.ties.links (l.ties.monitors ++ (x ∷ [])) l.ties.worn)) (watch s i (runner s) b)) (sym z)
-    (watch_agrees k l s g a i (runner s) b m f.0 f.1 (eqb_false (runner s) 0 p.0))
+    (watch_agrees k l s g a i (runner s) b m f.0 f.1 (eqb-false (runner s) 0 p.0))
 
 -- its tests are the reckoning's
 pub monitor-same : (target : ℕ) → Tested (monitor target)
@@ -368,7 +368,7 @@ module _ (k : Caps) (l : Ledger) (s : State) (g : Good k s) (a : Agrees k l s) (
   -- a live actor, its slot one up, is the one that runs
   mine : (x : ℕ) → 1 ≤ x → alive (s STATE) (x - 1) ≡ true → eqb (actor_id s (x - 1)) l.people.running ≡ eqb x (runner s)
   mine x m v =
-      let up : suc (runner s - 1) ≡ runner s = omega (arith, eqb_false (runner s) 0 h) in
+      let up : suc (runner s - 1) ≡ runner s = omega (arith, eqb-false (runner s) 0 h) in
       ap (eqb (actor_id s (x - 1))) (running_is k s g l a h) ∙ up_id k l s g a x (runner s - 1) m v (runner-alive k s g h) ∙ ap (eqb x) up
 
 -- a timer's

@@ -6,7 +6,7 @@ use mathlib.Core.Bool.{true, false, ◌||◌}
 use mathlib.Core.List.{List}
 use lib.ListN.{length}
 use lib.Dec.{eqb, leb, ltb}
-use borrow.Author.Tests.{eqb_false, le-ltb, lt-leb, ltb-false, ne_eqb}
+use borrow.Author.Tests.{eqb-false, le-ltb, lt-leb, ltb-false, ne_eqb}
 use Rattle.ledger.specs.Call.{Answer, Line, Op, number}
 use Rattle.ledger.specs.Call.Answer.{ended}
 use Rattle.ledger.specs.Call.Call.{op}
@@ -68,7 +68,7 @@ module _ (k : Caps) (s : State) (l : Ledger) (g : Good k s) (r : Agrees k l s) (
     };
     rests = λ e. split (eqb (runner s) 0)
         (λ q. z (sym e ∙ r.people.running ∙ rw q))
-        (λ q. eqb_false (runner_id s) id (another n (runner s - 1) (runner-alive k s g q)) (sym (running_is k s g l r q) ∙ e));
+        (λ q. eqb-false (runner_id s) id (another n (runner s - 1) (runner-alive k s g q)) (sym (running_is k s g l r q) ∙ e));
   }
 
 -- THE THEOREM, in words of the reckoning: once an actor ended, whoever it is, nothing of it is left and nothing is aimed at it
@@ -79,7 +79,7 @@ departed_unaimed k s l a reason g r there =
     let u = (depart k a reason s).state in
     let h = depart_keeps k s a reason g there in
     let e = (depart_agrees k s l a reason g r there).agrees in
-    nothing_aimed k u (departed id reason l) h e id (eqb_false id 0 (id_not_zero k s g a there))
+    nothing_aimed k u (departed id reason l) h e id (eqb-false id 0 (id_not_zero k s g a there))
     (sym (known_same k u h (departed id reason l) e id) ∙ (depart_leaves_nothing k s a reason g there).2)
 
 -- who is alive in the tables is known to the reckoning, and the other way
@@ -129,7 +129,7 @@ exit_over reason sent lost l w p w₁ p₁ m h =
     let there = runner-alive k s g q.0 in
     let run = running_is k s g l h.agrees q.0 in
     let now = (exit_leaves_nothing reason k s g q.0 q.1).2 in (
-      λ z. eqb_false (runner_id s) 0 (id_not_zero k s g (runner s - 1) there) (sym run ∙ z),
+      λ z. eqb-false (runner_id s) 0 (id_not_zero k s g (runner s - 1) there) (sym run ∙ z),
       subst (λ (i : ℕ). Over (view_of w₁ p₁) i) (sym run)
           (subst (λ (t : State). Over t (runner_id s)) (sym (line-state (exit reason) w p (ended 0 sent lost) w₁ p₁ m h.sound).0)
           (over_once (exit reason) k s (runner_id s) (runner_live k s g q.0) now)),

@@ -7,7 +7,7 @@ use mathlib.Core.Logic.{◌⊎◌, ⊎_elim}
 use mathlib.Core.Bool.{Bool, true, false, ◌||◌}
 use mathlib.Core.List.{List, [], ◌∷◌}
 use lib.Dec.{eqb, ltb, lit<}
-use borrow.Author.Tests.{eqb_false, eqb-true, ltb-true, ne_eqb, not-false}
+use borrow.Author.Tests.{eqb-false, eqb-true, ltb-true, ne_eqb, not-false}
 use Rattle.ledger.specs.Beat.{OnBeat}
 use Rattle.ledger.specs.Call.{Answer, Line, Op, code, id_told, number, refuses}
 use Rattle.ledger.specs.Call.Answer.{made}
@@ -141,7 +141,7 @@ every_begins interval id l w p w₁ p₁ m h =
       given = subst (λ (u : State). WasGiven timer_pool u id) (sym (line-state (every interval) w p (made 0 id) w₁ p₁ m h.sound).0)
           (subst (λ (i : ℕ). WasGiven timer_pool (step (every interval) (caps_of w) s).state i) (ap id_told (sym e)) f.1);
       beats = all_both P l.time.timers (_ ∷ [])
-          (all_then (λ t. eqb t.id id ≡ false) P l.time.timers (λ t n z. absurd (eqb_false t.id id n z)) (none_all (λ t. eqb t.id id) l.time.timers (none_has l w p id h new)))
+          (all_then (λ t. eqb t.id id ≡ false) P l.time.timers (λ t n z. absurd (eqb-false t.id id n z)) (none_all (λ t. eqb t.id id) l.time.timers (none_has l w p id h new)))
           (λ z. record { kept = refl; times = 0; whole = omega (arith, mul-zero interval); soon = omega arith }, tt);
     }
 

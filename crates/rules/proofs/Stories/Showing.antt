@@ -7,7 +7,7 @@ use native.Mathlib.Omega.{arith}
 use lib.ListN.{length, take, drop, length-drop}
 use lib.Seq.{length-take-le}
 use lib.Dec.{eqb}
-use borrow.Author.Tests.{eqb_false}
+use borrow.Author.Tests.{eqb-false}
 use denote.Ref.{Bor}
 use Rattle.ledger.specs.Call.Answer.{part}
 use Rattle.ledger.specs.Call.Call.{op}
@@ -62,7 +62,7 @@ module _ (k : Caps) (s : State) where
         split (eqb (runner s) 0)
         (λ q. rw q (omega arith))
         (λ q. split (eqb (at s HAND (runner s - 1)) 0) (λ h. rw (q, h) (omega arith)) (λ h. let d = at s HAND (runner s - 1) in
-        rw (q, h) (omega (arith, hand_fits g (runner s - 1), eqb_false d 0 h, length-fits g (d - 1)))))
+        rw (q, h) (omega (arith, hand_fits g (runner s - 1), eqb-false d 0 h, length-fits g (d - 1)))))
 
     -- so the part is as long as is answered
     pub show_long : length (ruled show_entry k s).ans ≡ (ruled shown_entry k s).ans.length

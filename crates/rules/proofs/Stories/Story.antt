@@ -4,7 +4,7 @@ use mathlib.Core.Path.{◌≡◌, refl, sym, subst}
 use mathlib.Core.Bool.{true, false, not}
 use mathlib.Core.List.{List}
 use native.Mathlib.Decide.{ℕ_discrete}
-use borrow.Author.Tests.{eqb_false, not-true}
+use borrow.Author.Tests.{eqb-false, not-true}
 use Rattle.ledger.specs.Call.{Answer, Call, Line, Op, Sizes, number}
 use Rattle.ledger.specs.Call.Answer.{plain}
 use Rattle.ledger.specs.Call.Call.{start, op}
@@ -59,7 +59,7 @@ module _ (P : Ledger → State → Type 0)
   refused_lasts z l w p r w' p' n m t = let h = start_refused (caps_from z) w p r w' p' m n in rw (h.0, h.1, h.2) t
 
   line_lasts : (c : Call) (l : Ledger) (w p : List ℕ) (r : Answer) (w' p' : List ℕ) → begins (line c r) ≡ false → Meets c w p r w' p' → Kept l w p → P l (view_of w p) → P (entered (line c r) l) (view_of w' p')
-  line_lasts (start z) l w p r w' p' b = λ m x t. refused_lasts z l w p r w' p' (eqb_false (number r) 0 b) m t
+  line_lasts (start z) l w p r w' p' b = λ m x t. refused_lasts z l w p r w' p' (eqb-false (number r) 0 b) m t
   line_lasts (op o) l w p r w' p' b = leaves o l w p r w' p'
 
   -- THE LAW: so it lasts through any story in which nothing begins anew
