@@ -1,0 +1,8 @@
+-- A mask of all other bits.
+use native.Mathlib.Omega.{arith}
+use Rattle.pools.specs.Bits.{WORD-BITS}
+use Rattle.pools.proofs.MaskLaws.{and-clear}
+use Rattle.pools.proofs.bits.cleared.Goals as goal
+
+pub returns : goal.returns
+returns c = rw (c.power.ensures, and-clear WORD-BITS c.args.x c.args.k c.requires (omega arith))
