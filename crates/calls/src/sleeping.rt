@@ -14,7 +14,7 @@ use tables::limits::ALWAYS;
 use tables::words::get;
 
 // The earliest of some entries, one up, and its time; entry 0's where there is none.
-#[derive(Drop)]
+#[derive(Clone, Copy)]
 struct Soon {
     entry: u64,
     time: u64,

@@ -61,7 +61,7 @@ pub fn byte(n: u64, name: &[u8], e: usize, j: usize, x: u8) -> u64 {
 }
 
 // An entry's word of a column, and what it becomes.
-#[derive(Drop)]
+#[derive(Clone, Copy)]
 pub struct Change {
     pub column: usize,
     pub entry: usize,

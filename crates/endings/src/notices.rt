@@ -28,7 +28,7 @@ use tables::words::get;
 const EXIT: u32 = 4;
 
 // How many notices were sent and lost so far.
-#[derive(Drop)]
+#[derive(Clone, Copy)]
 pub struct Count {
     pub sent: u64,
     pub lost: u64,

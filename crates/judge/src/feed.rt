@@ -7,7 +7,7 @@ use crate::step::fg_replay;
 use records::bytes::load16;
 
 // How far it came: whether a record was wrong; the number of that record, or of the next one; how many bytes were used.
-#[derive(Drop)]
+#[derive(Clone, Copy)]
 pub struct Fed {
     pub wrong: bool,
     pub count: u64,

@@ -26,7 +26,7 @@ const AFTS: [usize; 23] = [
     1, 2, 4, 1, 1, 5, 0, 3, 2, 2, 1, 1, 1, 2, 1, 3, 2, 7, 2, 1, 1, 1, 0,
 ];
 
-#[derive(Drop)]
+#[derive(Clone, Copy)]
 pub struct Form {
     pub fore: usize,
     pub longest: u64,

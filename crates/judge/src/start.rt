@@ -12,7 +12,7 @@ use tables::layout::{bytes_needed, words_needed};
 use trace::writer::matches;
 
 // What the record of a start asks for: the lengths of its buffers, and the capacities.
-#[derive(Drop)]
+#[derive(Clone, Copy)]
 pub struct Wanted {
     pub words: u64,
     pub bytes: u64,

@@ -5,7 +5,7 @@ pub mod states;
 
 // The number, and the new id.
 #[repr(C)]
-#[derive(Drop)]
+#[derive(Clone, Copy)]
 pub struct Made {
     pub no: u64,
     pub id: u64,
@@ -13,7 +13,7 @@ pub struct Made {
 
 // The number; the actor that now runs and why it was runnable; or, with 6, the time to sleep.
 #[repr(C)]
-#[derive(Drop)]
+#[derive(Clone, Copy)]
 pub struct Turn {
     pub no: u64,
     pub id: u64,
@@ -23,7 +23,7 @@ pub struct Turn {
 
 // The number, and the message that is now in hand.
 #[repr(C)]
-#[derive(Drop)]
+#[derive(Clone, Copy)]
 pub struct Received {
     pub no: u64,
     pub sender: u64,
@@ -34,7 +34,7 @@ pub struct Received {
 
 // The number, and where the payload in hand lies in the payload area.
 #[repr(C)]
-#[derive(Drop)]
+#[derive(Clone, Copy)]
 pub struct Shown {
     pub no: u64,
     pub offset: u64,
@@ -43,7 +43,7 @@ pub struct Shown {
 
 // The number, and how many exit notices were sent and lost.
 #[repr(C)]
-#[derive(Drop)]
+#[derive(Clone, Copy)]
 pub struct Ended {
     pub no: u64,
     pub sent: u64,
@@ -52,7 +52,7 @@ pub struct Ended {
 
 // The number, and how many timers fired.
 #[repr(C)]
-#[derive(Drop)]
+#[derive(Clone, Copy)]
 pub struct Advanced {
     pub no: u64,
     pub fired: u64,
@@ -60,7 +60,7 @@ pub struct Advanced {
 
 // The number, and the free entries of the six pools side by side.
 #[repr(C)]
-#[derive(Drop)]
+#[derive(Clone, Copy)]
 pub struct Report {
     pub no: u64,
     pub free: [u64; 6],
@@ -68,7 +68,7 @@ pub struct Report {
 
 // The number, and how many bytes were copied to the lent slice.
 #[repr(C)]
-#[derive(Drop)]
+#[derive(Clone, Copy)]
 pub struct Copied {
     pub no: u64,
     pub length: u64,

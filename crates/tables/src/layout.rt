@@ -16,7 +16,7 @@ use crate::sizes::{
 };
 
 // A column: its first word, and how many words it has.
-#[derive(Drop)]
+#[derive(Clone, Copy)]
 pub struct Place {
     pub from: usize,
     pub size: usize,

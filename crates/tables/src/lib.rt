@@ -11,7 +11,7 @@ pub mod sizes;
 pub mod words;
 
 // The capacities of the six pools.
-#[derive(Drop)]
+#[derive(Clone, Copy)]
 pub struct Caps {
     pub actors: usize,
     pub mails: usize,

@@ -11,7 +11,7 @@ const KEPT: u64 = 256;
 pub const PLACES: usize = 65_536;
 
 // When a track ended: it has not, at a record, too long ago to say.
-#[derive(Drop)]
+#[derive(Clone, Copy)]
 pub enum End {
     No,
     At(u64),

@@ -12,7 +12,7 @@ use runtime::host::fg_report;
 use tables::columns::{ACTORS, BUSES, CLOCK, DATAS, HAND, LINKS, MAILS, MONITORS, TIMERS};
 
 // The six pools.
-#[derive(Drop)]
+#[derive(Clone, Copy)]
 pub enum Pool {
     Tracks,
     Mails,

@@ -16,7 +16,7 @@ pub const CUT: u64 = 2;
 pub const BAD: u64 = 3;
 
 // The part of the buffer that was read and not used, and whether the input has ended.
-#[derive(Drop)]
+#[derive(Clone, Copy)]
 pub struct Window {
     pub from: usize,
     pub to: usize,
@@ -24,7 +24,7 @@ pub struct Window {
 }
 
 // What is at the front of a window, and where it ends.
-#[derive(Drop)]
+#[derive(Clone, Copy)]
 pub struct Front {
     pub what: u64,
     pub end: usize,

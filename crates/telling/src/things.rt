@@ -12,7 +12,7 @@ const MOST: u64 = 256;
 
 // Messages unread, timers, links, monitors on the track and by it, subscriptions to the i-th bus; in nobody's name, tracks that live, and slots that are worn out;
 // and, in the name of a bus, data entries with what was published on it, and subscribers.
-#[derive(Drop)]
+#[derive(Clone, Copy)]
 pub enum Thing {
     Unread,
     Timer,

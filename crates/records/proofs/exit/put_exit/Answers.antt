@@ -1,0 +1,23 @@
+-- Four stores, one after the other, are one.
+use mathlib.Core.List.{◌++◌}
+use Rattle.records.specs.Bytes.{le}
+use Rattle.records.specs.Records.{exit_bytes}
+use Rattle.records.proofs.ByteLaws.{stored_on}
+use Rattle.records.proofs.exit.put_exit.Goals as goal
+
+pub returns : goal.returns
+unfolding le exit_bytes
+returns c =
+    let a = c.args in
+    let at-frame = c.put_frame.ensures in
+    let at-actor = c.store64.ensures in
+    let at-reason = c.store16.ensures in
+    let at-monitor = c.store64-2.ensures in
+    let frame = le 2 20 ++ le 2 4 in
+    let actor = le 8 a.actor in
+    let reason = le 2 a.reason in
+    stored_on a.s.now a.at (frame ++ (actor ++ reason)) (le 8 a.monitor)
+    (stored_on a.s.now a.at (frame ++ actor) reason
+    (stored_on a.s.now a.at frame actor at-frame at-actor)
+    at-reason)
+    at-monitor

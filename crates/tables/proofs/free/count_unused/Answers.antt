@@ -1,0 +1,8 @@
+-- `tables::free::count_unused` meets its contract.
+use Rattle.tables.proofs.ViewLaws.{view-full}
+use Rattle.tables.proofs.free.count_unused.Goals as goal
+
+pub returns : goal.returns
+returns c =
+    let a = c.args in
+    rw (c.column.ensures, view-full a.k a.t.now a.p.now c.requires.0.words a.c c.requires.1) at c.count_unused.ensures
