@@ -16,7 +16,7 @@ use Rattle.pools.specs.Pool.{count, lowest, occurs, Exact}
 use Rattle.pools.specs.Bits.{free}
 use Rattle.pools.specs.Lists.{keep, without}
 use Rattle.pools.specs.Slot.{id_of, is_live, slot_of, unused}
-use Rattle.pools.proofs.BoolLaws.{split, true_false, and_left, and_right, and-true, flag_eq, neither}
+use Rattle.pools.proofs.BoolLaws.{split, true_false, and_left, and_right, and_true, flag_eq, neither}
 use Rattle.pools.proofs.PoolLaws.{none_iff, room_iff}
 use Rattle.pools.proofs.ListLaws.{occurs-append, occurs_get_d, occurs-head, occurs-once, occurs-place, occurs_tail}
 use Rattle.pools.proofs.ExactLaws.{exact_free, exact_used}
@@ -143,7 +143,7 @@ live_some F words ages es p id f b x =
     (λ q. let y = and_left t (p j) q in
     let o : 0 < occurs j es = rw (x j, ne_eqb (get_or words j 0) 0 (of_live F words ages id y).0) (omega arith) in
     some_yes (λ i. eqb (id_of F (get_or ages i 0) i) id && p i) es j o
-    (and-true (eqb (id_of F (get_or ages j 0) j) id) (p j) (eq-eqb (id_of F (get_or ages j 0) j) id (sym (live_is F words ages id f y))) (and_right t (p j) q)) ∙ sym q)
+    (and_true (eqb (id_of F (get_or ages j 0) j) id) (p j) (eq-eqb (id_of F (get_or ages j 0) j) id (sym (live_is F words ages id f y))) (and_right t (p j) q)) ∙ sym q)
     (λ q. some_no (λ i. eqb (id_of F (get_or ages i 0) i) id && p i) es (λ i o.
     split (eqb (id_of F (get_or ages i 0) i) id)
     (λ e. let z = eqb-true (id_of F (get_or ages i 0) i) id e in

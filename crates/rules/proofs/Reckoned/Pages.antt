@@ -60,7 +60,7 @@ module _ {A : Type 0} where
   within_then a Within.none = a
   within_then a (Within.goes b) = Within.goes (within_then a b)
   within_then (Within.goes a) (Within.stays b) = Within.goes (within_then a b)
-  within_then (Within.stays a) (Within.stays b) = Within.stays (within_then a b)
+  within_then (Within.stays {xs = xs} a) (Within.stays {xs = ys} {ys = zs} b) = Within.stays (within_then {xs = xs} {ys = ys} {zs = zs} a b)
 
   -- of both lists those that pass
   pub within_of : {xs ys : List A} (q : A → Bool) → Within xs ys → Within (those q xs) (those q ys)

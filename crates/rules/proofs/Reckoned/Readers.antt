@@ -15,7 +15,7 @@ use Rattle.ledger.specs.Room.{is_reader, subscribed}
 use Rattle.pools.specs.Bits.{cleared}
 use Rattle.pools.specs.Lists.{keep}
 use Rattle.pools.specs.Slot.{id_of}
-use Rattle.pools.proofs.BoolLaws.{and_left, and_right, and-true, same_bool, split}
+use Rattle.pools.proofs.BoolLaws.{and_left, and_right, and_true, same_bool, split}
 use Rattle.pools.proofs.BitLaws.{cleared-other}
 use Rattle.pools.proofs.ListLaws.{keep-all_on, keep-keep, keep-same_on}
 use Rattle.pools.proofs.PoolLaws.{count_same}
@@ -57,7 +57,7 @@ module _ (k : Caps) (l : Ledger) (s : State) (g : Good k s) (r : Agrees k l s) (
       let z = seat_once g b (i % MOST-SEATS) n bl (omega arith) nl (λ w. omega arith) (ap (at s SEAT) (sym here) ∙ y ∙ sym e) in
       eq-eqb i (seat_at b n) (omega arith))
       (λ q. let z = eqb-true i (seat_at b n) q in
-      and-true _ _ (eq-eqb (i / MOST-SEATS) b (omega arith)) (eq-eqb (at s SEAT i) (suc a) (ap (at s SEAT) z ∙ e)))
+      and_true _ _ (eq-eqb (i / MOST-SEATS) b (omega arith)) (eq-eqb (at s SEAT i) (suc a) (ap (at s SEAT) z ∙ e)))
 
   -- where it sits nowhere on the bus, it is none
   pub reader_none : sits s b (suc a) ≡ false → (i : ℕ) → (at s SEAT i ≡ 0 → ⊥) → is_reader b (actor_id s a) (reader_at s r.buses.cursor i) ≡ false
@@ -80,7 +80,7 @@ module _ (k : Caps) (l : Ledger) (s : State) (g : Good k s) (r : Agrees k l s) (
       let e = sits-there s b (suc a) q in
       let u : at s SEAT (seat_at b n) ≡ 0 → ⊥ = λ z. omega arith in
       rw q (sym (some_yes (λ i. p (f i)) r.buses.seats (seat_at b n) (used_seat k s g l r (seat_at b n) u)
-      (reader_same (seat_at b n) u ∙ and-true _ _ (eq-eqb (seat_at b n / MOST-SEATS) b (omega arith)) (eq-eqb (in_seat s b n) (suc a) e)))))
+      (reader_same (seat_at b n) u ∙ and_true _ _ (eq-eqb (seat_at b n / MOST-SEATS) b (omega arith)) (eq-eqb (in_seat s b n) (suc a) e)))))
       (λ q. rw q (sym (some_no (λ i. p (f i)) r.buses.seats (λ i o. reader_none q i (seat_used k s g l r i o))))))
 
 -- ---- the running actor
