@@ -141,7 +141,7 @@ lines_happen [] w p h = record { words = w; bytes = p; story = Story.over }
 lines_happen {k} {s} (c ∷ cs) w p h =
     let t = (step c k s).state in
     let m = answers_so c w p h in
-    let y = lines_happen cs (join_w t) (join_p t) (hold_line c w p (step c k s).ans (join_w t) (join_p t) m h).1 in
+    let y = lines_happen {s = t} cs (join_w t) (join_p t) (hold_line c w p (step c k s).ans (join_w t) (join_p t) m h).1 in
     record { words = y.words; bytes = y.bytes; story = Story.then m y.story }
 
 -- THE THEOREM: where a start can be done, any calls after it make a story, with just the computed lines
