@@ -15,7 +15,7 @@ use Rattle.records.specs.Bytes.{Bytes, field, le, of_le}
 use Rattle.records.specs.Records.{is_record}
 use Rattle.records.proofs.ByteLaws.{bytes_drop, length-le}
 use Rattle.trace.specs.Codec.{body, bytes, words}
-use Rattle.trace.specs.Contracts.{leads}
+use Rattle.trace.specs.Promises.{leads}
 use Rattle.trace.specs.Kinds.{noted}
 use Rattle.trace.specs.Verdict.{same}
 use Rattle.trace.proofs.CodecLaws.{length-words}

@@ -11,7 +11,7 @@ use borrow.Author.Tests.{le-leb, lt-leb}
 use Rattle.records.specs.Bytes.{le}
 use Rattle.records.proofs.ByteLaws.{length-le, stored_on}
 use Rattle.trace.specs.Codec.{body, bytes, words}
-use Rattle.trace.specs.Contracts.{Put}
+use Rattle.trace.specs.Promises.{Put}
 use Rattle.trace.specs.Kinds.{noted}
 use Rattle.trace.proofs.CodecLaws.{length-bytes, length-words}
 use Rattle.trace.proofs.KindLaws.{length-body}

@@ -4,7 +4,7 @@ ghost use Rattle.ledger.specs.Call.{Answer};
 ghost use Rattle.ledger.specs.Call.Answer.{advanced, copied, counts, ended, made, place, plain, received, turn};
 ghost use Rattle.ledger.specs.Call.Call.{op, start};
 ghost use Rattle.ledger.specs.Call.Op.{advance, after, bus, cancel, demonitor, every, exit, link, monitor, next, notify, publish, read, receive, report, show, shown, spawn, subscribe, unlink, unsubscribe, yield};
-ghost use Rattle.trace.specs.Contracts.{Put};
+ghost use Rattle.trace.specs.Promises.{Put};
 ghost use Rattle.trace.specs.Kinds.{encode};
 
 use crate::numbers::unsigned;

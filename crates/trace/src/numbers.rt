@@ -2,7 +2,7 @@
 ghost use Rattle.std.specs.Prelude.{◌≡◌, ◌+◌, ◌*◌, ◌≤◌, drop, length};
 ghost use Rattle.std.proofs.lemmas.List.Edits.{sets};
 ghost use Rattle.trace.specs.Codec.{words};
-ghost use Rattle.trace.specs.Contracts.{leads};
+ghost use Rattle.trace.specs.Promises.{leads};
 ghost use Rattle.trace.specs.Kinds.{signed, unsigned};
 
 use records::bytes::{load64, store64};

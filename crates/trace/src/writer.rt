@@ -4,7 +4,7 @@ ghost use Rattle.std.proofs.lemmas.List.Edits.{sets};
 ghost use Rattle.trace.specs.Codec.{bytes};
 ghost use Rattle.trace.specs.Kinds.{noted};
 ghost use Rattle.trace.specs.Verdict.{same};
-ghost use Rattle.trace.specs.Contracts.{Put, Short};
+ghost use Rattle.trace.specs.Promises.{Put, Short};
 
 use crate::numbers::{put_text, put_words, text_at, words_at};
 use records::frame::{is_record, put_frame};

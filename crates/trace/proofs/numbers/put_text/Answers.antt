@@ -1,0 +1,22 @@
+-- `trace::numbers::put_text` meets its contract: each turn puts one byte.
+use Prim.Native.Nat.{◌-◌}
+use native.Mathlib.Omega.{arith}
+use mathlib.Core.Path.{refl}
+use lib.ListN.{length-set}
+use lib.Seq.{take_all}
+use Rattle.tables.proofs.LoopLaws.{copy-turn}
+use Rattle.trace.proofs.numbers.put_text.Goals as goal
+
+pub loop-i-init : goal.loop-i-init
+loop-i-init c = (omega arith, refl, refl)
+
+pub loop-i-preserved : goal.loop-i-preserved
+loop-i-preserved c =
+    let l = c.loop-i in
+    (omega arith, simp length-set l.invariant.1, rw l.invariant.2 (copy-turn c.args.s.now c.args.at c.args.m.now l.i (omega arith)))
+
+pub returns : goal.returns
+returns c =
+    let l = c.loop-i in
+    let e = take_all l.i c.args.m.now (omega arith) in
+    rw e at l.invariant.2
