@@ -1,4 +1,6 @@
 // The record of each call with its answer, for C: how many bytes it takes; 0 and nothing changed where the slice is too short.
+#![tactic(auto, unfolding(crate::specs::Kinds::encode))]
+
 ghost use Rattle.std.specs.Prelude.{[], ◌∷◌};
 ghost use Rattle.ledger.specs.Call.{Answer};
 ghost use Rattle.ledger.specs.Call.Answer.{advanced, copied, counts, ended, made, place, plain, received, turn};
