@@ -1,0 +1,16 @@
+-- The entries below d keep their rule.
+use native.Mathlib.Omega.{arith}
+use Prim.Native.Nat.{◌-◌}
+use mathlib.Core.Path.{◌≡◌}
+use Rattle.rules.proofs.Kept.Rules.{all_more, all_none, and_same}
+use borrow.Author.Rules.{rules}
+use Rattle.sound.proofs.messages.entries_ok.Goals as goal
+
+pub loop-d-init : goal.loop-d-init
+loop-d-init c = (search rules, rw all_none)
+
+pub loop-d-preserved : goal.loop-d-preserved
+loop-d-preserved c = (search rules, rw all_more (and_same c.loop-d.invariant.1 c.entry_ok-ok.ensures))
+
+pub returns : goal.returns
+returns c = let q : c.loop-d.d ≡ c.args.n = omega arith in rw q at c.loop-d.invariant.1
