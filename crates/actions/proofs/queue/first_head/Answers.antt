@@ -16,8 +16,8 @@ loop-i-preserved c =
     let z = c.loop-i.invariant in
     let e = c.level_of-level.ensures in
     elim c.if-level-best.branch [
-      then-level-best w ↦ rw (w.best-is, w.place-is) (ahead_better z (omega arith) e (omega arith) (omega arith))
-    | else-level-best w ↦ rw (w.best-is, w.place-is) (ahead_on z (omega arith) (omega (arith, e)))
+      then-level-best w ↦ rw (w.best-is, w.first-is) (ahead_better z (omega arith) e (omega arith) (omega arith))
+    | else-level-best w ↦ rw (w.best-is, w.first-is) (ahead_on z (omega arith) (omega (arith, e)))
     ]
 
 pub returns : goal.returns

@@ -16,8 +16,8 @@ loop-i-preserved c =
     (
       search rules,
       elim c.if-word-when.branch [
-        then-word-when w ↦ rw (w.best-is, w.when-is) (noted-next h ?)
-      | else-word-when w ↦ rw (w.best-is, w.when-is) (noted-same h ?)
+        then-word-when w ↦ rw (w.best-is, w.first-is) (noted-next h w.if-word-when.true)
+      | else-word-when w ↦ rw (w.best-is, w.first-is) (noted-same h w.if-word-when.false)
       ],
     )
 
