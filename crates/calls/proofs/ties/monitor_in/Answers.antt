@@ -1,0 +1,34 @@
+-- The refusals in their order, and what is left of the rule.
+use mathlib.Core.Path.{refl}
+use Rattle.rules.specs.Calls.{ruled}
+use Rattle.calls.proofs.CallLaws.{equal, is_not, is_so, nobody, runner_id-fits, somebody, unequal}
+use Rattle.calls.proofs.ties.monitor_in.Goals as goal
+
+pub returns-then-r-eq0 : goal.returns-then-r-eq0
+unfolding ruled
+returns-then-r-eq0 c =
+    simp (nobody c.get-r.ensures c.if-r-eq0.true) (refl, record { is = refl; room = c.requires.room })
+
+pub actor_id-requires : goal.actor_id-requires
+actor_id-requires c =
+    runner_id-fits c.requires c.get-r.ensures
+
+pub returns-then-target-actor_id : goal.returns-then-target-actor_id
+unfolding ruled
+returns-then-target-actor_id c =
+    simp (somebody c.get-r.ensures c.if-r-eq0.false, equal (rw c.get-r.ensures at c.actor_id.ensures) c.if-target-actor_id.true) (refl, record { is = refl; room = c.requires.room })
+
+pub returns-then-not-is_actor : goal.returns-then-not-is_actor
+unfolding ruled
+returns-then-not-is_actor c =
+    simp (somebody c.get-r.ensures c.if-r-eq0.false, unequal (rw c.get-r.ensures at c.actor_id.ensures) c.if-target-actor_id.false, is_not c.is_actor.ensures c.if-not-is_actor.true) (refl, record { is = refl; room = c.requires.room })
+
+pub begin_watch-requires : goal.begin_watch-requires
+begin_watch-requires c =
+    (c.requires, c.get-r.ensures)
+
+pub returns : goal.returns
+unfolding ruled
+returns c =
+    simp (somebody c.get-r.ensures c.if-r-eq0.false, unequal (rw c.get-r.ensures at c.actor_id.ensures) c.if-target-actor_id.false, is_so c.is_actor.ensures c.if-not-is_actor.false)
+    c.begin_watch.ensures
