@@ -1,8 +1,10 @@
 -- The refusals in their order, and what is left of the rule.
+use mathlib.Core.Bool.{not}
+use mathlib.Core.Path.{ap}
 use mathlib.Core.Path.{refl}
 use native.Mathlib.Omega.{arith}
 use lib.ListN.{length}
-use borrow.Author.Tests.{ltb-true}
+use borrow.Author.Tests.{le-ltb, lt-ltb}
 use Rattle.tables.specs.Limits.{MOST-SEATS}
 use Rattle.tables.specs.State.{view}
 use Rattle.rules.specs.Calls.{ruled}
@@ -35,7 +37,7 @@ returns-then-not-n c =
     let s = view a.k a.t.now a.p.now in
     let u = rw c.get-r.ensures at c.unread_length.ensures in
     let l = rw c.get-r.ensures at c.seat_of-n.ensures in
-    let q = rw l at (c.if-not-n.true) in
+    let q = rw l at (le-ltb _ _ c.if-not-n.true) in
     rw (read_unseated a.k s a.b (length a.out.now) (somebody c.get-r.ensures c.if-r-eq0.false) (not-below refl u c.if-out-unread_length.false) q) ((refl, record { is = refl; room = c.requires.room }), (omega arith, refl, refl))
 
 pub read_value-requires : goal.read_value-requires
@@ -43,7 +45,7 @@ read_value-requires c =
     let u = rw c.get-r.ensures at c.unread_length.ensures in
     let l = rw c.get-r.ensures at c.seat_of-n.ensures in
     let j = rw c.get-r.ensures at c.oldest_unread-j.ensures in
-    (c.requires, (ltb-true c.seat_of-n.result MOST-SEATS (c.if-not-n.false), l, j, omega (arith, u, c.if-out-unread_length.false)))
+    (c.requires, (c.if-not-n.false, l, j, omega (arith, u, c.if-out-unread_length.false)))
 
 pub returns : goal.returns
 returns c =
@@ -51,5 +53,5 @@ returns c =
     let s = view a.k a.t.now a.p.now in
     let u = rw c.get-r.ensures at c.unread_length.ensures in
     let l = rw c.get-r.ensures at c.seat_of-n.ensures in
-    let q = rw l at (c.if-not-n.false) in
+    let q = rw l at (lt-ltb _ _ c.if-not-n.false) in
     rw (read-seated a.k s a.b (length a.out.now) (somebody c.get-r.ensures c.if-r-eq0.false) (not-below refl u c.if-out-unread_length.false) q) c.read_value.ensures

@@ -1,4 +1,6 @@
 -- The refusals in their order, and what is left of the rule.
+use mathlib.Core.Bool.{not}
+use mathlib.Core.Path.{ap}
 use mathlib.Core.Path.{refl, sym, ◌∙◌}
 use native.Mathlib.Omega.{arith}
 use borrow.Author.Tests.{ltb-true}
@@ -23,17 +25,17 @@ returns-then-sits c =
 pub returns-then-not-is_bus : goal.returns-then-not-is_bus
 unfolding ruled
 returns-then-not-is_bus c =
-    simp (somebody c.get-r.ensures c.if-r-eq0.false, sym (rw c.get-r.ensures at c.sits.ensures) ∙ c.if-sits.false, is_not c.is_bus.ensures c.if-not-is_bus.true) (refl, record { is = refl; room = c.requires.room })
+    simp (somebody c.get-r.ensures c.if-r-eq0.false, sym (rw c.get-r.ensures at c.sits.ensures) ∙ c.if-sits.false, is_not c.is_bus.ensures (ap not c.if-not-is_bus.true)) (refl, record { is = refl; room = c.requires.room })
 
 pub take_seat-requires : goal.take_seat-requires
 take_seat-requires c =
     let a = c.args in
     let g = good_ready a.k a.t.now a.p.now c.requires in
     let s = view a.k a.t.now a.p.now in
-    let made = ltb-true a.b (head s BUSES) (is_so c.is_bus.ensures c.if-not-is_bus.false) in
+    let made = ltb-true a.b (head s BUSES) (is_so c.is_bus.ensures (ap not c.if-not-is_bus.false)) in
     (c.requires, c.get-r.ensures, omega (arith, made, buses-fit g))
 
 pub returns : goal.returns
 unfolding ruled
 returns c =
-    simp (somebody c.get-r.ensures c.if-r-eq0.false, sym (rw c.get-r.ensures at c.sits.ensures) ∙ c.if-sits.false, is_so c.is_bus.ensures c.if-not-is_bus.false) c.take_seat.ensures
+    simp (somebody c.get-r.ensures c.if-r-eq0.false, sym (rw c.get-r.ensures at c.sits.ensures) ∙ c.if-sits.false, is_so c.is_bus.ensures (ap not c.if-not-is_bus.false)) c.take_seat.ensures

@@ -1,4 +1,6 @@
 -- The refusals in their order, and a message.
+use mathlib.Core.Bool.{not}
+use mathlib.Core.Path.{ap}
 use mathlib.Core.Path.{refl}
 use native.Mathlib.Omega.{arith}
 use lib.Dec.{leb, ltb}
@@ -25,12 +27,12 @@ returns-then-tag-payload c =
 pub returns-then-not-is_actor : goal.returns-then-not-is_actor
 unfolding ruled
 returns-then-not-is_actor c =
-    simp (somebody c.get-r.ensures c.if-r-eq0.false, c.if-tag-payload.false, is_not c.is_actor.ensures c.if-not-is_actor.true) (refl, record { is = refl; room = c.requires.room })
+    simp (somebody c.get-r.ensures c.if-r-eq0.false, c.if-tag-payload.false, is_not c.is_actor.ensures (ap not c.if-not-is_actor.true)) (refl, record { is = refl; room = c.requires.room })
 
 pub returns-then-not-has_room : goal.returns-then-not-has_room
 unfolding ruled
 returns-then-not-has_room c =
-    simp (somebody c.get-r.ensures c.if-r-eq0.false, c.if-tag-payload.false, is_so c.is_actor.ensures c.if-not-is_actor.false, is_not c.has_room.ensures c.if-not-has_room.true) (refl, record { is = refl; room = c.requires.room })
+    simp (somebody c.get-r.ensures c.if-r-eq0.false, c.if-tag-payload.false, is_so c.is_actor.ensures (ap not c.if-not-is_actor.false), is_not c.has_room.ensures (ap not c.if-not-has_room.true)) (refl, record { is = refl; room = c.requires.room })
 
 pub actor_id-sender-requires : goal.actor_id-sender-requires
 actor_id-sender-requires c =
@@ -50,10 +52,10 @@ pub post-requires : goal.post-requires
 post-requires c =
     let a = c.args in
     let g = good_ready a.k a.t.now a.p.now c.requires in
-    (c.requires.room, (is_so c.has_room.ensures c.if-not-has_room.false, omega (arith, ltb-false PAYLOAD-MOST (length a.payload.now) (neither (leb ANY-TAG a.tag) (ltb PAYLOAD-MOST (length a.payload.now)) c.if-tag-payload.false).1), omega arith, omega (arith, queue-fits g, g.range), omega (arith, arrivals-fit g, g.range)))
+    (c.requires.room, (is_so c.has_room.ensures (ap not c.if-not-has_room.false), omega (arith, ltb-false PAYLOAD-MOST (length a.payload.now) (neither (leb ANY-TAG a.tag) (ltb PAYLOAD-MOST (length a.payload.now)) c.if-tag-payload.false).1), omega arith, omega (arith, queue-fits g, g.range), omega (arith, arrivals-fit g, g.range)))
 
 pub returns : goal.returns
 unfolding ruled
 returns c =
-    simp (somebody c.get-r.ensures c.if-r-eq0.false, c.if-tag-payload.false, is_so c.is_actor.ensures c.if-not-is_actor.false, is_so c.has_room.ensures c.if-not-has_room.false)
+    simp (somebody c.get-r.ensures c.if-r-eq0.false, c.if-tag-payload.false, is_so c.is_actor.ensures (ap not c.if-not-is_actor.false), is_so c.has_room.ensures (ap not c.if-not-has_room.false))
     (refl, record { is = rw (c.post.ensures.is, c.pack-header.ensures, c.actor_id-sender.ensures, c.get-r.ensures); room = c.post.ensures.room })

@@ -9,15 +9,6 @@ use Rattle.calls.proofs.CallLaws.{nobody, somebody}
 use Rattle.rules.proofs.Kept.Clauses.{hand_fits}
 use Rattle.calls.proofs.messages.shown_in.Goals as goal
 
-few : (c : tie.Else2) → c.before.get2.result ≤ MOST-DATAS
-few c =
-    let c1 = c.before in
-    let c2 = c1.before.before in
-    let c3 = c2.before.before.before in
-    let a = c3.args in
-    let g = good_ready a.k a.t.now a.p.now c3.requires in
-    omega (arith, c1.get2.ensures, hand_fits g (c2.get.result - 1), g.range)
-
 pub returns-then-r-eq0 : goal.returns-then-r-eq0
 unfolding ruled
 returns-then-r-eq0 c =
@@ -29,10 +20,14 @@ returns-then-hand-eq0 c =
     simp (somebody c.get-r.ensures c.if-r-eq0.false, nobody (rw c.get-r.ensures at c.get-hand.ensures) c.if-hand-eq0.true) (refl, record { is = refl; room = c.requires.room })
 
 pub overflow_mul-result : goal.overflow_mul-result
-overflow_mul-result c = omega (arith, few c)
+overflow_mul-result c =
+    let g = good_ready c.args.k c.args.t.now c.args.p.now c.requires in
+    omega (arith, c.get-hand.ensures, hand_fits g (c.get-r.result - 1), g.range)
 
 pub overflow_add-result : goal.overflow_add-result
-overflow_add-result c = omega (arith, few c)
+overflow_add-result c =
+    let g = good_ready c.args.k c.args.t.now c.args.p.now c.requires in
+    omega (arith, c.get-hand.ensures, hand_fits g (c.get-r.result - 1), g.range)
 
 pub returns : goal.returns
 unfolding ruled

@@ -22,18 +22,18 @@ take_turn-requires c =
     let a = c.args in
     let s = view a.k a.t.now a.p.now in
     let g = good_ready a.k a.t.now a.p.now c.requires in
-    let h : c.first_head-j.result < head s QUEUED = omega (arith, c.if-j-get.true, c.get.ensures) in
+    let h : c.first_head-j.result < head s QUEUED = omega (arith, c.if-j-get.true, c.get-2.ensures) in
     let z = queued_fits g c.first_head-j.result h in
     (c.requires.room, (omega (arith, z, c.get-a.ensures, g.range), age_fits g c.get-a.result, h, queue-fits g))
 
 pub returns-then-j-get : goal.returns-then-j-get
 unfolding ruled
 returns-then-j-get c =
-    simp (nobody c.get.ensures c.if-get-ne0.false, below c.first_head-j.ensures c.get.ensures c.if-j-get.true)
+    simp (nobody c.get.ensures c.if-get-ne0.false, below c.first_head-j.ensures c.get-2.ensures c.if-j-get.true)
     (rw (c.get-a.ensures, c.first_head-j.ensures) at c.take_turn.ensures)
 
 pub returns : goal.returns
 unfolding ruled
 returns c =
-    simp (nobody c.get.ensures c.if-get-ne0.false, not-below c.first_head-j.ensures c.get.ensures c.if-j-get.false)
+    simp (nobody c.get.ensures c.if-get-ne0.false, not-below c.first_head-j.ensures c.get-2.ensures c.if-j-get.false)
     (rw (to_z-of_z w64 c.sleep.result (record { sfits = c.sleep.type_inv }), c.sleep.ensures), record { is = refl; room = c.requires.room })

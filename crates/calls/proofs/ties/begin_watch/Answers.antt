@@ -9,16 +9,6 @@ use Rattle.calls.proofs.CallLaws.{below, not-below}
 use Rattle.rules.proofs.Kept.Clauses.{monitor_age_fits}
 use Rattle.calls.proofs.ties.begin_watch.Goals as goal
 
-few : (c : tie.After-slice-known2) → (c.before.before.before.before.get.result ≤ OLDEST) × (c.before.before.before.before.before.before.before.monitor-for.result < MONITOR-FACTOR)
-few c =
-    let c1 = c.before.before.before.before in
-    let c2 = c1.before.before in
-    let c3 = c2.before in
-    let c4 = c3.before.before.before.before in
-    let a = c4.args in
-    let g = good_ready a.k a.t.now a.p.now c4.requires.0 in
-    (rw c1.get.ensures (monitor_age_fits g c3.monitor-for.result), omega (arith, c2.if1.true, g.range))
-
 pub overflow_add-age : goal.overflow_add-age
 overflow_add-age c =
     let a = c.args in
@@ -32,10 +22,14 @@ watch-requires c =
     (c.requires.0.room, omega (arith, monitor_age_fits g c.monitor_for-i.result))
 
 pub overflow_mul-result : goal.overflow_mul-result
-overflow_mul-result c = omega (arith, few c)
+overflow_mul-result c =
+    let g = good_ready c.args.k c.args.t.now c.args.p.now c.requires.0 in
+    omega (arith, c.get-age.ensures, monitor_age_fits g c.monitor_for-i.result, g.range)
 
 pub overflow_add-result : goal.overflow_add-result
-overflow_add-result c = omega (arith, few c)
+overflow_add-result c =
+    let g = good_ready c.args.k c.args.t.now c.args.p.now c.requires.0 in
+    omega (arith, c.get-age.ensures, monitor_age_fits g c.monitor_for-i.result, g.range)
 
 pub returns-then-i-k : goal.returns-then-i-k
 returns-then-i-k c =

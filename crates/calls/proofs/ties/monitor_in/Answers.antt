@@ -1,4 +1,6 @@
 -- The refusals in their order, and what is left of the rule.
+use mathlib.Core.Bool.{not}
+use mathlib.Core.Path.{ap}
 use mathlib.Core.Path.{refl}
 use Rattle.rules.specs.Calls.{ruled}
 use Rattle.calls.proofs.CallLaws.{equal, is_not, is_so, nobody, runner_id-fits, somebody, unequal}
@@ -21,7 +23,7 @@ returns-then-target-actor_id c =
 pub returns-then-not-is_actor : goal.returns-then-not-is_actor
 unfolding ruled
 returns-then-not-is_actor c =
-    simp (somebody c.get-r.ensures c.if-r-eq0.false, unequal (rw c.get-r.ensures at c.actor_id.ensures) c.if-target-actor_id.false, is_not c.is_actor.ensures c.if-not-is_actor.true) (refl, record { is = refl; room = c.requires.room })
+    simp (somebody c.get-r.ensures c.if-r-eq0.false, unequal (rw c.get-r.ensures at c.actor_id.ensures) c.if-target-actor_id.false, is_not c.is_actor.ensures (ap not c.if-not-is_actor.true)) (refl, record { is = refl; room = c.requires.room })
 
 pub begin_watch-requires : goal.begin_watch-requires
 begin_watch-requires c =
@@ -30,5 +32,5 @@ begin_watch-requires c =
 pub returns : goal.returns
 unfolding ruled
 returns c =
-    simp (somebody c.get-r.ensures c.if-r-eq0.false, unequal (rw c.get-r.ensures at c.actor_id.ensures) c.if-target-actor_id.false, is_so c.is_actor.ensures c.if-not-is_actor.false)
+    simp (somebody c.get-r.ensures c.if-r-eq0.false, unequal (rw c.get-r.ensures at c.actor_id.ensures) c.if-target-actor_id.false, is_so c.is_actor.ensures (ap not c.if-not-is_actor.false))
     c.begin_watch.ensures

@@ -11,4 +11,4 @@ arm_in-requires c =
 
 pub returns : goal.returns
 returns c =
-    c.Arm-in.ensures
+    c.arm_in.ensures

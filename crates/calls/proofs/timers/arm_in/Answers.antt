@@ -9,16 +9,6 @@ use Rattle.calls.proofs.CallLaws.{below, nobody, not-below, somebody}
 use Rattle.rules.proofs.Kept.Clauses.{clock_fits, runner-fits, timer_age_fits}
 use Rattle.calls.proofs.timers.arm_in.Goals as goal
 
-few : (c : tie.After-slice-known2) → (c.before.before.before.before.get3.result ≤ OLDEST) × (c.before.before.before.before.before.before.before.before.before.timer-for.result < TIMER-FACTOR)
-few c =
-    let c1 = c.before.before.before.before in
-    let c2 = c1.before.before.before.before in
-    let c3 = c2.before in
-    let c4 = c3.before.before.before.before.before.before.before.before in
-    let a = c4.args in
-    let g = good_ready a.k a.t.now a.p.now c4.requires.0 in
-    (rw c1.get3.ensures (timer_age_fits g c3.timer-for.result), omega (arith, c2.if3.true, g.range))
-
 pub returns-then-r-eq0 : goal.returns-then-r-eq0
 unfolding ruled
 returns-then-r-eq0 c =
@@ -48,16 +38,20 @@ arm-requires c =
     (c.requires.0.room, (omega (arith, timer_age_fits g c.timer_for-i.result), omega (arith, c.get-r.ensures, runner-fits g, g.range)))
 
 pub overflow_mul-result : goal.overflow_mul-result
-overflow_mul-result c = omega (arith, few c)
+overflow_mul-result c =
+    let g = good_ready c.args.k c.args.t.now c.args.p.now c.requires.0 in
+    omega (arith, c.get-age.ensures, timer_age_fits g c.timer_for-i.result, g.range)
 
 pub overflow_add-result : goal.overflow_add-result
-overflow_add-result c = omega (arith, few c)
+overflow_add-result c =
+    let g = good_ready c.args.k c.args.t.now c.args.p.now c.requires.0 in
+    omega (arith, c.get-age.ensures, timer_age_fits g c.timer_for-i.result, g.range)
 
 pub returns-then-i-k : goal.returns-then-i-k
 unfolding ruled
 returns-then-i-k c =
     simp (somebody c.get-r.ensures c.if-r-eq0.false, c.if-bad.false, below c.timer_for-i.ensures refl c.if-i-k.true)
-    (rw (c.get-age.ensures, c.timer_for-i.ensures), record { is = rw (c.arm.ensures.is, c.get-r.ensures, c.timer_for-i.ensures, c.get-r.ensures); room = c.arm.ensures.room })
+    (rw (c.get-age.ensures, c.timer_for-i.ensures), record { is = rw (c.arm.ensures.is, c.get.ensures, c.timer_for-i.ensures, c.get-r.ensures); room = c.arm.ensures.room })
 
 pub returns : goal.returns
 unfolding ruled

@@ -15,4 +15,4 @@ send_tick-requires c = let a = c.args in
 pub returns : goal.returns
 unfolding fire
 returns c = let d = c.send_tick in
-    record { is = rw (d.ensures.is, c.rearm.ensures.is, c.get-owner.ensures, c.get-owner.ensures); room = d.ensures.room }
+    record { is = rw (d.ensures.is, c.rearm.ensures.is, c.get-owner.ensures, c.get-age.ensures); room = d.ensures.room }

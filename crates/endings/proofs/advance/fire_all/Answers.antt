@@ -11,7 +11,7 @@ pub fire_row-requires : goal.fire_row-requires
 fire_row-requires c =
     let d = c.due_timers-m in
     let a = c.args in
-    let o : Waiting a.k (view a.k a.t.now a.p.now) d.result d.new.1.1.1.1.0 = rw c.get-clock.ensures at d.ensures.order in
+    let o : Waiting a.k (view a.k a.t.now a.p.now) d.result d.new.row = rw c.get-clock.ensures at d.ensures.order in
     (c.requires.0, (c.requires.1, o, d.ensures.few))
 
 pub returns : goal.returns

@@ -1,11 +1,11 @@
 -- What is left to fire of the present state is what was to fire of the first.
+use mathlib.Core.Path.{ap}
 use Prim.Native.Nat.{ℕ, ◌<◌, ◌-◌, ◌+◌}
-use mathlib.Core.Path.{◌≡◌, refl, sym, ap, ◌∙◌}
+use mathlib.Core.Path.{◌≡◌, refl, sym, ◌∙◌}
 use mathlib.Core.Bool.{true, false}
 use native.Mathlib.Omega.{arith}
 use lib.ListN.{get_or}
 use lib.Dec.{lit<}
-use borrow.Author.Tests.{not-false}
 use Rattle.tables.specs.Columns.{DUE, TIMER-OWNER}
 use Rattle.tables.specs.State.{view}
 use Rattle.rules.specs.Actions.{has_room}
@@ -45,7 +45,7 @@ fire-requires c =
     let s = view a.k l.t l.p in
     let w = c.loop-left-test.true in
     let h = c.has_room in
-    let r : has_room a.k s ≡ true = sym h.ensures ∙ not-false h.result c.if-not-has_room.false in
+    let r : has_room a.k s ≡ true = sym h.ensures ∙ c.if-not-has_room.false in
     let e : next_due a.k s - 1 ≡ get_or a.row.now (l.left - 1) 0 = omega (arith, waiting_next a.k s l.left a.row.now l.invariant.2 w) in
     let (clock, late) = l.invariant.1 in
     (l.invariant.0, rw e at (late_fires a.k clock s late (waiting_fires a.k s l.left a.row.now l.invariant.2 w r)))
@@ -57,7 +57,7 @@ loop-left-preserved c =
     let s = view a.k l.t l.p in
     let w = c.loop-left-test.true in
     let h = c.has_room in
-    let r : has_room a.k s ≡ true = sym h.ensures ∙ not-false h.result c.if-not-has_room.false in
+    let r : has_room a.k s ≡ true = sym h.ensures ∙ c.if-not-has_room.false in
     let q = waiting_fires a.k s l.left a.row.now l.invariant.2 w r in
     let x = get_or a.row.now (l.left - 1) 0 in
     let e : next_due a.k s - 1 ≡ x = omega (arith, waiting_next a.k s l.left a.row.now l.invariant.2 w) in

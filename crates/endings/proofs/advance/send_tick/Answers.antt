@@ -13,5 +13,5 @@ post-requires c =
 pub returns : goal.returns
 unfolding le tick_bytes
 returns c = let q = c.put_tick in
-    let e : q.new.0 ≡ tick_bytes c.args.id = q.ensures in
+    let e : q.new.s ≡ tick_bytes c.args.id = q.ensures in
     rw (c.pack.ensures, e) at c.post.ensures

@@ -75,4 +75,4 @@ returns-in-5 c =
     (arm a.k a.a a.me a.reason s a.i 5 c.in-5.is d, tells_few d)
 
 pub returns-in_default : goal.returns-in_default
-returns-in_default c = absurd (omega (arith, c.requires.1, c.in_default.rest))
+returns-in_default c = absurd (omega (arith, c.requires.1, c.in_default))

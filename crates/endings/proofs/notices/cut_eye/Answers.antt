@@ -24,14 +24,14 @@ overflow_mul-age c = let a = c.args in
     let h = c.requires in
     let s = view a.k a.t.now a.p.now in
     let w = watcher_below a.k a.a a.me s h.1.0 a.i h.1.1 h.1.2 in
-    omega (arith, c.get-watcher.ensures, w.2)
+    omega (arith, c.get-age.ensures, w.2)
 
 pub overflow_add-age : goal.overflow_add-age
 overflow_add-age c = let a = c.args in
     let h = c.requires in
     let s = view a.k a.t.now a.p.now in
     let w = watcher_below a.k a.a a.me s h.1.0 a.i h.1.1 h.1.2 in
-    omega (arith, c.get-watcher.ensures, w.2, h.1.1, h.0.caps.few_monitors)
+    omega (arith, c.get-age.ensures, w.2, h.1.1, h.0.caps.few_monitors)
 
 pub tell-requires : goal.tell-requires
 tell-requires c = let a = c.args in
@@ -45,4 +45,4 @@ pub returns : goal.returns
 returns c = let a = c.args in
     let s = view a.k a.t.now a.p.now in
     let q : eqb (at s WATCHED a.i) (suc a.a) ≡ true = eq-eqb (at s WATCHED a.i) (suc a.a) c.requires.1.2 in
-    rw (cut_monitor_yes a.k a.a a.me a.reason a.i (told_of a.n s) q) (rw (c.unwatch.ensures.is, c.get-watcher.ensures, c.get-watcher.ensures) at c.tell.ensures)
+    rw (cut_monitor_yes a.k a.a a.me a.reason a.i (told_of a.n s) q) (rw (c.unwatch.ensures.is, c.get-watcher.ensures, c.get-age.ensures) at c.tell.ensures)

@@ -14,5 +14,5 @@ pub returns : goal.returns
 unfolding le exit_bytes
 returns c = let a = c.args in
     let q = c.put_exit in
-    let e : q.new.0 ≡ exit_bytes a.me a.reason a.monitor = q.ensures in
+    let e : q.new.s ≡ exit_bytes a.me a.reason a.monitor = q.ensures in
     rw (c.pack.ensures, e) at c.post.ensures
