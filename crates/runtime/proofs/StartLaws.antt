@@ -52,8 +52,9 @@ unfolding view zeroed cut
 view-zeroed k w p r = fun_ext (λ c.
     split (ltb c REST)
     (λ q. let l = ltb-true c REST q in
-    rw (lt-ltb c PAYLOAD (omega arith), ne_eqb c REST (λ e. omega arith), ne_eqb c PAST (λ e. omega arith), ne_eqb c PAYLOAD (λ e. omega arith), zeros_front w (needed k) r.words, ← needed-sum k)
-    (cut-zeros (sizes k) (drop (sum (sizes k)) w) c l))
+    rw (lt-ltb c PAYLOAD (omega arith), ne_eqb c REST (λ e. omega arith), ne_eqb c PAST (λ e. omega arith), ne_eqb c PAYLOAD (λ e. omega arith))
+    (ap (λ (x : List ℕ). cut (sizes k) x c) (zeros_front w (needed k) r.words ∙ ap (λ (n : ℕ). zeros n ++ drop n w) (sym (needed-sum k)))
+    ∙ cut-zeros (sizes k) (drop (sum (sizes k)) w) c l))
     (λ q. let l = ltb-false c REST q in
     split (eqb c REST)
     (λ e. rw (eqb-true c REST e) rest)
