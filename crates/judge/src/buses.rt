@@ -68,7 +68,7 @@ fn lent(room: u64) -> usize
 fn read_here(t: &mut [u64], p: &mut [u8], a: u64, room: u64, copy: &mut [u8]) -> Copied
     requires { length copy.old ≡ 252 }
     ensures meets { Meets (op (read a room)) t.old p.old (say_copy (copy_in result copy.new)) t.new p.new }
-    ensures length_bound { result.length ≤ 252 }
+    ensures short { result.length ≤ 252 }
 {
     let n = lent(room);
     fg_read(t, p, a, &mut copy[..n])

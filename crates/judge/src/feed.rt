@@ -51,8 +51,8 @@ pub fn feed(t: &mut [u64], p: &mut [u8], n: u64, bytes: &[u8]) -> Fed
 // What lies in a buffer from a place on up to another is moved to its front: how many bytes that are.
 pub fn keep(buf: &mut [u8], from: usize, to: usize) -> usize
     requires { (from ≤ to) × (to ≤ length buf.old) }
-    ensures value { result ≡ to - from }
-    ensures buf_after { take (to - from) buf.new ≡ drop from (take to buf.old) }
+    ensures count { result ≡ to - from }
+    ensures moved { take (to - from) buf.new ≡ drop from (take to buf.old) }
 {
     let n = to - from;
     let mut i = 0;

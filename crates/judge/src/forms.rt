@@ -35,8 +35,8 @@ pub struct Form {
 
 // The form of a kind; an unknown one has nothing after it.
 pub fn form_of(kind: u16) -> Form
-    ensures result_value { shape_of result ≡ (row_of kind).shape }
-    ensures fore_bound { (result.fore ≤ 8) × (result.longest ≤ 252) × (result.aft ≤ 7) }
+    ensures form { shape_of result ≡ (row_of kind).shape }
+    ensures bounds { (result.fore ≤ 8) × (result.longest ≤ 252) × (result.aft ≤ 7) }
 {
     if kind < FIRST {
         return Form {

@@ -1,0 +1,16 @@
+-- `judge::forms::length_right` meets its contract: the two lengths, by the form of the kind and by the header, are those of the definition.
+use mathlib.Core.Path.{sym}
+use Rattle.judge.specs.Forms.{shape_of}
+use Rattle.judge.proofs.FormLaws.{formed-not, formed-says, formed-short}
+use Rattle.judge.proofs.forms.length_right.Goals as goal
+
+pub returns-then-r-fore : goal.returns-then-r-fore
+returns-then-r-fore c = rw (← c.form_of-f.ensures.form) (sym (formed-short (shape_of c.form_of-f.result) c.args.r.now c.if-r-fore.true))
+
+pub returns-then-r-fore-2 : goal.returns-then-r-fore-2
+returns-then-r-fore-2 c =
+    rw (← c.form_of-f.ensures.form) (sym (formed-not (shape_of c.form_of-f.result) c.args.r.now (λ e. c.if-r-fore-2.true (rw c.text_length.ensures.value e))))
+
+pub returns : goal.returns
+returns c =
+    rw (← c.form_of-f.ensures.form, c.load16.ensures) (sym (formed-says (shape_of c.form_of-f.result) c.args.r.now (rw (← c.text_length.ensures.value) c.if-r-fore-2.false)))
