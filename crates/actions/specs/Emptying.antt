@@ -1,5 +1,5 @@
 -- One pass over the arrivals that empties a mailbox: what a turn of it does, and what it leaves.
-use Rattle.std.specs.Prelude.{ℕ, suc, ◌+◌, ◌-◌, Bool, cond, List, ◌++◌, take, drop, replicate, eqb}
+use Rattle.std.specs.Prelude.{ℕ, suc, ◌-◌, Bool, cond, List, ◌++◌, take, drop, replicate, eqb}
 use Rattle.std.proofs.Math.Seq.{slice}
 use Rattle.tables.specs.Columns.{ARRIVAL, ARRIVED, MAIL-DATA, MAIL-FREE, MAIL-OWNER}
 use Rattle.tables.specs.State.{State, at, head, with_col, poke}

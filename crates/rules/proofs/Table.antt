@@ -21,7 +21,7 @@ use Rattle.pools.proofs.BoolLaws.{and_right, split, true_false}
 use Rattle.tables.specs.declared.Caps.{Caps}
 use Rattle.tables.specs.Columns.{ARRIVED, ISSUED, QUEUED, RUNNING}
 use Rattle.tables.specs.Limits.{LEVELS}
-use Rattle.tables.specs.State.{State, at, head}
+use Rattle.tables.specs.State.{State, head}
 use Rattle.rules.specs.Aged.{monitor_pool, timer_pool}
 use Rattle.rules.specs.Terms.{runner}
 use Rattle.rules.specs.Actions.{let_go}

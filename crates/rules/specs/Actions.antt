@@ -7,7 +7,7 @@ use Rattle.records.specs.Header.{class_of, tag_of}
 use Rattle.tables.specs.declared.Caps.{Caps}
 use Rattle.tables.specs.Columns.{ARRIVAL, ARRIVED, DATA-FREE, DEADLINE, HAND, LENGTH, MAIL-DATA, MAIL-FREE, MAIL-OWNER, QUEUE, QUEUED, REASON, RUNNING, SENDER, STATE, WANT-CLASS, WANT-SENDER, WANT-TAG}
 use Rattle.tables.specs.Limits.{HEADER-BYTES}
-use Rattle.tables.specs.State.{State, at, head, poke}
+use Rattle.tables.specs.State.{State, at, poke}
 use Rattle.tables.specs.Action.{push, pull, take_bit, free_bit, write, blank}
 use Rattle.rules.specs.Terms.{MESSAGE, RUNNABLE, WAITS, fits}
 

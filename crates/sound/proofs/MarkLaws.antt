@@ -30,7 +30,7 @@ use Rattle.rules.proofs.Kept.Rules.{reads, same_test, and_same}
 use Rattle.tables.specs.declared.Caps.{Caps}
 use Rattle.tables.specs.Columns.{ARRIVAL, ARRIVED, DATA-FREE, ISSUE, ISSUED, MAIL-DATA, MAIL-FREE, QUEUE, QUEUED, STATE, REST}
 use Rattle.tables.specs.Sizes.{BIT-WORDS, COLUMN-BITS}
-use Rattle.tables.specs.State.{State, at, head, size, view, Room}
+use Rattle.tables.specs.State.{State, head, size, view, Room}
 use Rattle.tables.proofs.ViewLaws.{view-full}
 use Rattle.sound.specs.Marks.{Added, AddedBoth, AllResting, Below, Ended, Flags, OTHERS, Resting, full_rule, rests}
 use Rattle.sound.proofs.WordLaws.{free-at}
@@ -397,9 +397,9 @@ module _ (k : Caps) (s : State) where
   unfolding plain_rules
   head_of h = let ((_, (heads, _)), _) = h in heads
 
-  slot_of : Holds (plain_rules k s) → (a : ℕ) → a < k.actors → Holds (slot_rule k s a)
+  slot_rule_at : Holds (plain_rules k s) → (a : ℕ) → a < k.actors → Holds (slot_rule k s a)
   unfolding plain_rules
-  slot_of h = let (_, (_, ((slots, _), _))) = h in slots
+  slot_rule_at h = let (_, (_, ((slots, _), _))) = h in slots
 
   box_of : Holds (plain_rules k s) → (e : ℕ) → e < k.mails → Holds (box_rule k s e)
   unfolding plain_rules
@@ -427,7 +427,7 @@ module _ (k : Caps) (w p : List ℕ) (room : Room k w p) (h : Holds (plain_rules
   queue-below z y =
       let s = view k w p in
       let (_, ((queued, _), _)) = head_of k s h in
-      rw (z, y) (omega (arith, view-full k w p room.words QUEUE (lit< tt)), λ i l. let (_, (_, (_, (within, _)))) = slot_of k s h i (omega arith) in within l)
+      rw (z, y) (omega (arith, view-full k w p room.words QUEUE (lit< tt)), λ i l. let (_, (_, (_, (within, _)))) = slot_rule_at k s h i (omega arith) in within l)
 
   pub arrival-below : {n : ℕ} {list : List ℕ} → n ≡ head (view k w p) ARRIVED → list ≡ view k w p ARRIVAL → (n ≤ length list) × Below k.mails n list
   arrival-below z y =

@@ -14,8 +14,8 @@ use Rattle.ledger.specs.Call.Call.{start, op}
 use Rattle.ledger.specs.Call.Op.{spawn, next, yield, notify, receive, show, shown, after, every, cancel, link, unlink, monitor, demonitor, exit, advance, report, bus, publish, subscribe, unsubscribe, read}
 use Rattle.pools.proofs.BoolLaws.{split}
 use Rattle.tables.specs.declared.Caps.{Caps}
-use Rattle.tables.specs.State.{State, at, head}
-use Rattle.tables.specs.Columns.{ISSUED, LENGTH}
+use Rattle.tables.specs.State.{State, head}
+use Rattle.tables.specs.Columns.{ISSUED}
 use Rattle.tables.specs.Limits.{ANY-TAG, PAYLOAD-MOST}
 use Rattle.rules.specs.Buses.{oldest_unread, unread_length, value_at}
 use Rattle.rules.specs.Good.{Good}

@@ -1,25 +1,22 @@
 -- A trace that was written from a successful start gives `ok`.
-use Prim.Native.Nat.{ℕ, suc, ◌+◌, ◌-◌, ◌*◌, ◌^◌, ◌<◌, ◌≤◌}
+use Prim.Native.Nat.{ℕ, suc, ◌+◌, ◌^◌, ◌<◌, ◌≤◌}
 use mathlib.Core.Path.{◌≡◌, refl, sym, ap, subst, ◌∙◌}
 use mathlib.Core.Bool.{true, false, ◌&&◌}
 use mathlib.Core.Logic.{◌↔◌}
 use mathlib.Core.List.{List, [], ◌∷◌, ◌++◌, append_assoc, append-nil}
 use native.Mathlib.Omega.{arith}
-use lib.ListN.{length, take, drop, length-drop, length-take}
-use lib.Dec.{eqb, leb}
+use lib.ListN.{length, take, drop}
+use lib.Dec.{leb}
 use Rattle.ledger.specs.Call.{Answer, Call, Line, Op, Sizes}
 use Rattle.ledger.specs.Call.Answer.{plain}
 use Rattle.ledger.specs.Call.Call.{start, op}
 use Rattle.pools.proofs.BoolLaws.{and_left, split}
 use Rattle.records.specs.Bytes.{Bytes, of_le}
 use Rattle.tables.specs.declared.Caps.{Caps}
-use Rattle.tables.specs.Columns.{HAND, LENGTH, PAYLOAD}
-use Rattle.tables.specs.Limits.{ENTRY-BYTES, HEADER-BYTES}
-use Rattle.tables.specs.State.{State, at, needed, needed_p, view}
+use Rattle.tables.specs.State.{State, needed, needed_p, view}
 use Rattle.rules.specs.Rule.{test}
 use Rattle.rules.specs.Sound.{range_rule}
-use Rattle.rules.specs.Calls.{Out, entry, ruled}
-use Rattle.rules.specs.Terms.{runner}
+use Rattle.rules.specs.Calls.{Out}
 use Rattle.rules.specs.Host.{can_start, fresh}
 use Rattle.rules.specs.Run.{afterwards, lines, step}
 use Rattle.rules.specs.Story.{Meets, Story, caps_from, line}
@@ -32,7 +29,7 @@ use Rattle.rules.proofs.Stories.Plays.{Hold, did_start, start-holds, story_plays
 use Rattle.rules.proofs.Table.{step_keeps}
 use Rattle.rules.proofs.Frames.Trim.{trim-fresh, trim-step}
 use Rattle.trace.specs.Codec.{Note, Small, body, bytes}
-use Rattle.trace.specs.Kinds.{Asked, Fits, abridged, asked, encode, note_of, opening, start_args}
+use Rattle.trace.specs.Kinds.{Asked, abridged, asked, encode, note_of, start_args}
 use Rattle.trace.specs.Kinds.Asked.{asks, begins}
 use Rattle.trace.specs.Verdict.{Ending, Said, Stand, Taken, Traced, Verdict, begun, can_begin, extent_of, goes_on, left, matched, right_one, judged, unbegun, verdict, verdict_from}
 use Rattle.trace.specs.Verdict.Said.{right}

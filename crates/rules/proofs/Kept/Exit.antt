@@ -31,7 +31,7 @@ use Rattle.rules.proofs.Lists.Ties.{below, below_no, below_none, below_yes, cond
 use Rattle.rules.proofs.Frames.Wrote.{Wrote, wrote_none, wrote_over, wrote_still}
 use Rattle.rules.proofs.Frames.Actions.{EYE-CUT, LINK-CUT, POSTED, wrote_post, wrote_tie}
 use Rattle.rules.proofs.Kept.Ties.{unwatch_keeps, untie_keeps}
-use Rattle.rules.proofs.Kept.Messages.{Fine, exit_fine, joined, post-alive, post_keeps, sender_fine}
+use Rattle.rules.proofs.Kept.Messages.{Fine, exit_fine, post-alive, post_keeps, sender_fine}
 use Rattle.rules.proofs.Kept.Clauses.{link_ends, monitor-ends}
 
 -- ---- what a message leaves

@@ -31,7 +31,7 @@ use Rattle.tables.specs.Columns.{AGE, ARRIVAL, ARRIVED, CLOCK, DATA-FREE, DEADLI
 use Rattle.tables.specs.Sizes.{COLUMN-BITS}
 use Rattle.tables.specs.Limits.{ACTOR-FACTOR, ANY-CLASS, ANY-TAG, CLOCK-END, DEADLINE-END, ENTRY-BYTES, LONGEST-WAIT, PAYLOAD-MOST}
 use Rattle.tables.specs.State.{Sized, State, at, head, poke, with_col}
-use Rattle.tables.specs.Action.{push, pull, take_bit, free_bit, write, blank}
+use Rattle.tables.specs.Action.{push, pull, take_bit, free_bit, write}
 use Rattle.tables.proofs.LoopLaws.{sets_apart, sets_same}
 use Rattle.tables.proofs.ActionLaws.{poke-same, write-append}
 use Rattle.rules.specs.Rule.{Holds}

@@ -18,7 +18,7 @@ use Rattle.tables.specs.declared.Caps.{Caps}
 use Rattle.tables.specs.Columns.{ACTORS, DATA-FREE, DATAS, DEADLINE, LINKS, MAIL-FREE, MAILS, MONITORS, PAST, PAYLOAD, REST, TIMERS}
 use Rattle.tables.specs.Sizes.{ALL-SEATS, BIT-WORDS, COLUMN-BITS, SPARES}
 use Rattle.tables.specs.Limits.{ENTRY-BYTES}
-use Rattle.tables.specs.State.{InRange, Room, Sized, State, at, caps_of, head, needed, needed_p, poke, size, sizes, view, with_col}
+use Rattle.tables.specs.State.{InRange, Room, Sized, State, at, caps_of, needed, needed_p, poke, size, sizes, view, with_col}
 use Rattle.rules.specs.Rule.{Holds, test}
 use Rattle.rules.specs.Sound.{pair_rule, range_rule, sound_rule, view_of, zeros}
 use Rattle.rules.specs.Terms.{alive}

@@ -8,7 +8,7 @@ use lib.ListN.{length}
 use lib.Dec.{eqb, ltb, leb}
 use borrow.Author.Tests.{eqb-true, eqb-false, leb-true, ltb-false, not-true}
 use Rattle.ledger.specs.Call.Op.{advance}
-use Rattle.ledger.specs.Ledger.{Ledger, time}
+use Rattle.ledger.specs.Ledger.{Ledger}
 use Rattle.ledger.specs.Reckon.{due_now, entered, fires, firing, firings, later, rearmed, sent, soonest, tick}
 use Rattle.pools.proofs.BoolLaws.{split, and_left, and_right, neither}
 use Rattle.records.specs.Header.{packed}

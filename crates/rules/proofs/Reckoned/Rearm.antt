@@ -9,7 +9,7 @@ use lib.Seq.{get_or-set_same}
 use lib.Dec.{eqb, ltb, leb, lit<}
 use borrow.Author.Tests.{eqb-true, eqb-false, eq-eqb, ne_eqb, not-true}
 use Rattle.ledger.specs.Ledger.{Ledger, time, with_time}
-use Rattle.ledger.specs.Lists.{first, some}
+use Rattle.ledger.specs.Lists.{some}
 use Rattle.ledger.specs.Reckon.{due_again, due_now, rearmed, redue, sooner, soonest}
 use Rattle.pools.specs.Pool.{occurs}
 use Rattle.pools.specs.Lists.{keep}

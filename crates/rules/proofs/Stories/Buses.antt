@@ -7,7 +7,7 @@ use mathlib.Core.Bool.{Bool, true, false, cond, not, ◌&&◌}
 use mathlib.Core.List.{List, [], ◌∷◌, ◌++◌, map, map-map}
 use lib.ListN.{length, length-map}
 use lib.Dec.{eqb, ltb, lit<, leb}
-use borrow.Author.Tests.{eqb-false, eqb-true, ne_eqb, lt-leb}
+use borrow.Author.Tests.{eqb-true, ne_eqb, lt-leb}
 use Rattle.ledger.specs.Call.{Answer, Line, Op, Why, code, first_yes, id_told, number, numbered, refuses, when}
 use Rattle.ledger.specs.Call.Why.{full, malformed, moment, unknown}
 use Rattle.ledger.specs.Call.Answer.{copied, made, plain, advanced}

@@ -1,5 +1,4 @@
 -- The mask is that of the seats before n.
-use Prim.Native.Nat.{◌-◌}
 use mathlib.Core.Path.{◌≡◌, refl, ap, ◌∙◌}
 use native.Mathlib.Omega.{arith}
 use Rattle.tables.specs.Limits.{MOST-SEATS}

@@ -1,5 +1,4 @@
 -- The words of the arrivals after those kept and before the i-th are 0.
-use Prim.Native.Nat.{◌-◌}
 use mathlib.Core.Path.{◌≡◌, refl}
 use native.Mathlib.Omega.{arith}
 use Rattle.tables.specs.Columns.{ARRIVAL, ARRIVED}

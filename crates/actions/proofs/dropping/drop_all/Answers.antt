@@ -1,5 +1,4 @@
 -- The mailbox is being emptied, and i arrivals were passed.
-use Prim.Native.Nat.{◌-◌}
 use mathlib.Core.Path.{refl}
 use native.Mathlib.Omega.{arith}
 use Rattle.tables.specs.Columns.{ARRIVAL, ARRIVED}

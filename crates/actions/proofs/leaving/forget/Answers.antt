@@ -1,5 +1,4 @@
 -- The data entries before d were passed.
-use Prim.Native.Nat.{◌-◌}
 use mathlib.Core.Path.{◌≡◌, refl}
 use native.Mathlib.Omega.{arith}
 use Rattle.tables.specs.State.{view}

@@ -1,5 +1,4 @@
 -- The buses before b were left.
-use Prim.Native.Nat.{◌-◌}
 use mathlib.Core.Path.{◌≡◌, refl}
 use native.Mathlib.Omega.{arith}
 use Rattle.tables.specs.Columns.{BUSES}

@@ -1,8 +1,6 @@
 -- No link entry below e joins the two.
-use Prim.Native.Nat.{◌-◌}
 use mathlib.Core.Path.{refl}
 use native.Mathlib.Omega.{arith}
-use Rattle.rules.specs.Terms.{joins}
 use Rattle.actions.proofs.ActionLaws.{search_start, search_on, search_hit, search_miss}
 use Rattle.actions.proofs.links.link_of.Goals as goal
 

@@ -1,5 +1,4 @@
 -- c is how many of the seats before n have read it.
-use Prim.Native.Nat.{◌-◌, ◌≤◌}
 use mathlib.Core.Path.{◌≡◌, ap, ◌∙◌}
 use native.Mathlib.Omega.{arith}
 use mir.Val.{bool_byte}

@@ -1,5 +1,4 @@
 -- Of the i that were passed, the first of the least level.
-use Prim.Native.Nat.{◌-◌}
 use native.Mathlib.Omega.{arith}
 use Rattle.actions.proofs.ActionLaws.{ahead-start, ahead_top, ahead_better, ahead_on, ahead-end}
 use Rattle.actions.proofs.queue.first_head.Goals as goal
@@ -16,8 +15,8 @@ loop-i-preserved c =
     let z = c.loop-i.invariant in
     let e = c.level_of-level.ensures in
     elim c.if-level-best.branch [
-      then-level-best w ↦ rw (w.best-is, w.first-is) (ahead_better z (omega arith) e (omega arith) (omega arith))
-    | else-level-best w ↦ rw (w.best-is, w.first-is) (ahead_on z (omega arith) (omega (arith, e)))
+      | then-level-best w ↦ rw (w.best-is, w.first-is) (ahead_better z (omega arith) e (omega arith) (omega arith))
+      | else-level-best w ↦ rw (w.best-is, w.first-is) (ahead_on z (omega arith) (omega (arith, e)))
     ]
 
 pub returns : goal.returns

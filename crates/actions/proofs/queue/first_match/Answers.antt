@@ -1,7 +1,5 @@
 -- None of the arrivals before i matches.
-use Prim.Native.Nat.{◌-◌}
 use native.Mathlib.Omega.{arith}
-use Rattle.rules.specs.Calls.{match_at}
 use Rattle.actions.proofs.ActionLaws.{search_start, search_on, search_hit, search_miss}
 use Rattle.actions.proofs.queue.first_match.Goals as goal
 

@@ -1,5 +1,4 @@
 -- The best is that of the entries below i.
-use Prim.Native.Nat.{◌-◌}
 use mathlib.Core.Path.{◌≡◌}
 use native.Mathlib.Omega.{arith}
 use Rattle.actions.proofs.TimeLaws.{noted_none, noted-next, noted-same}
@@ -12,12 +11,11 @@ loop-i-init c = (search rules, noted_none _ _ _ _)
 
 pub loop-i-preserved : goal.loop-i-preserved
 loop-i-preserved c =
-    let h = c.loop-i.invariant.1 in
-    (
+    let h = c.loop-i.invariant.1 in (
       search rules,
       elim c.if-word-when.branch [
-        then-word-when w ↦ rw (w.best-is, w.first-is) (noted-next h w.if-word-when.true)
-      | else-word-when w ↦ rw (w.best-is, w.first-is) (noted-same h w.if-word-when.false)
+        | then-word-when w ↦ rw (w.best-is, w.first-is) (noted-next h w.if-word-when.true)
+        | else-word-when w ↦ rw (w.best-is, w.first-is) (noted-same h w.if-word-when.false)
       ],
     )
 

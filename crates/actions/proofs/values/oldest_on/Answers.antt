@@ -1,7 +1,5 @@
 -- None before i is the bus's.
-use Prim.Native.Nat.{◌-◌}
 use native.Mathlib.Omega.{arith}
-use Rattle.rules.specs.Buses.{is_on}
 use Rattle.actions.proofs.ActionLaws.{search_start, search_on, search_hit, search_miss}
 use Rattle.actions.proofs.values.oldest_on.Goals as goal
 

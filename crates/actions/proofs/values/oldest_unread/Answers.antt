@@ -1,10 +1,7 @@
 -- None before i is the bus's, and unread.
-use Prim.Native.Nat.{◌-◌}
 use native.Mathlib.Omega.{arith}
 use borrow.Author.Tests.{le-ltb, lt-ltb}
-use Rattle.tables.specs.Limits.{MOST-SEATS}
 use Rattle.tables.specs.State.{view}
-use Rattle.rules.specs.Buses.{is_unread}
 use Rattle.actions.proofs.ActionLaws.{search_start, search_on, search_hit, search_miss}
 use Rattle.actions.proofs.BusLaws.{sits-bus, unread_none, unread-seated}
 use Rattle.actions.proofs.values.oldest_unread.Goals as goal

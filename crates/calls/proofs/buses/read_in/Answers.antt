@@ -1,11 +1,8 @@
 -- The refusals in their order, and what is left of the rule.
-use mathlib.Core.Bool.{not}
-use mathlib.Core.Path.{ap}
 use mathlib.Core.Path.{refl}
 use native.Mathlib.Omega.{arith}
 use lib.ListN.{length}
 use borrow.Author.Tests.{le-ltb, lt-ltb}
-use Rattle.tables.specs.Limits.{MOST-SEATS}
 use Rattle.tables.specs.State.{view}
 use Rattle.rules.specs.Calls.{ruled}
 use Rattle.calls.proofs.BusLaws.{read-seated, read_unseated}

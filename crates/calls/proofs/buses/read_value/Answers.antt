@@ -2,8 +2,7 @@
 use mathlib.Core.Path.{refl}
 use native.Mathlib.Omega.{arith}
 use borrow.Author.Tests.{le-ltb, lt-ltb}
-use Rattle.tables.specs.Columns.{ISSUED}
-use Rattle.tables.specs.State.{head, view}
+use Rattle.tables.specs.State.{view}
 use Rattle.rules.proofs.Kept.Clauses.{issue-fits, issue-some, length-fits, values-fit}
 use Rattle.rules.proofs.Kept.Ready.{good_ready}
 use Rattle.calls.proofs.buses.read_value.Goals as goal

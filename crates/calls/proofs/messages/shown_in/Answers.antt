@@ -1,8 +1,7 @@
 -- Nobody runs; nothing is in hand; something is.
-use Prim.Native.Nat.{◌-◌, ◌≤◌}
+use Prim.Native.Nat.{◌-◌}
 use mathlib.Core.Path.{refl}
 use native.Mathlib.Omega.{arith}
-use Rattle.tables.specs.Limits.{MOST-DATAS}
 use Rattle.rules.specs.Calls.{ruled}
 use Rattle.rules.proofs.Kept.Ready.{good_ready}
 use Rattle.calls.proofs.CallLaws.{nobody, somebody}

@@ -1,9 +1,9 @@
 -- There is a slot, or not.
-use Prim.Native.Nat.{◌%◌, ◌<◌, ◌≤◌}
+use Prim.Native.Nat.{◌%◌}
 use mathlib.Core.Path.{refl}
 use native.Mathlib.Numerals.{add-one}
 use native.Mathlib.Omega.{arith}
-use Rattle.tables.specs.Limits.{ACTOR-FACTOR, MONITOR-FACTOR, OLDEST}
+use Rattle.tables.specs.Limits.{ACTOR-FACTOR}
 use Rattle.rules.proofs.Kept.Ready.{good_ready}
 use Rattle.calls.proofs.CallLaws.{below, not-below}
 use Rattle.rules.proofs.Kept.Clauses.{monitor_age_fits}

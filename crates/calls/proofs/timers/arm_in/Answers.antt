@@ -1,8 +1,6 @@
 -- The four arms of a new timer.
-use Prim.Native.Nat.{◌<◌, ◌≤◌}
 use mathlib.Core.Path.{refl}
 use native.Mathlib.Omega.{arith}
-use Rattle.tables.specs.Limits.{OLDEST, TIMER-FACTOR}
 use Rattle.rules.specs.Calls.{ruled}
 use Rattle.rules.proofs.Kept.Ready.{good_ready}
 use Rattle.calls.proofs.CallLaws.{below, nobody, not-below, somebody}

@@ -1,5 +1,4 @@
 -- Whom it is left to wake of the present state is whom it was to wake of the first.
-use Prim.Native.Nat.{◌-◌}
 use mathlib.Core.Path.{◌≡◌}
 use lib.ListN.{length}
 use Rattle.tables.specs.Columns.{CLOCK}

@@ -1,5 +1,5 @@
 -- What is done and what is left to do are all the steps together.
-use Prim.Native.Nat.{◌<◌, ◌-◌}
+use Prim.Native.Nat.{◌<◌}
 use mathlib.Core.Path.{◌≡◌, refl, sym}
 use native.Mathlib.Omega.{arith}
 use Rattle.tables.specs.State.{view}

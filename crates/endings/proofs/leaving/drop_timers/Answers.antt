@@ -1,5 +1,4 @@
 -- The state is that with the timers below i dropped.
-use Prim.Native.Nat.{◌-◌}
 use mathlib.Core.Path.{◌≡◌, refl}
 use native.Mathlib.Omega.{arith}
 use Rattle.tables.specs.State.{view}

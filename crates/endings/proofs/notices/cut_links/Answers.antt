@@ -1,5 +1,5 @@
 -- State and counts are those with the links to the slots below b cut.
-use Prim.Native.Nat.{suc, ◌≤◌, ◌<◌, ◌-◌}
+use Prim.Native.Nat.{suc, ◌≤◌, ◌<◌}
 use mathlib.Core.Path.{◌≡◌, refl, ap}
 use native.Mathlib.Numerals.{add-one}
 use native.Mathlib.Omega.{arith}

@@ -1,5 +1,5 @@
 -- State and counts are those with the monitors below i cut.
-use Prim.Native.Nat.{◌≤◌, ◌-◌}
+use Prim.Native.Nat.{◌≤◌}
 use mathlib.Core.Path.{◌≡◌, refl, ap}
 use native.Mathlib.Omega.{arith}
 use Rattle.tables.specs.Limits.{MOST-MONITORS}

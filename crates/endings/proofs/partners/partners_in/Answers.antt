@@ -1,5 +1,4 @@
 -- The row has the links below e.
-use Prim.Native.Nat.{◌-◌}
 use mathlib.Core.Path.{◌≡◌, ◌∙◌}
 use native.Mathlib.Omega.{arith}
 use Rattle.endings.proofs.PartnerLaws.{partners_none, partners-more}

@@ -1,5 +1,4 @@
 -- `judge::feed::feed` meets its contract: each turn judges one record, and the loop ends at a wrong one or where no whole one is left.
-use Prim.Native.Nat.{◌-◌}
 use borrow.Author.Rules.{rules}
 use Rattle.judge.proofs.FeedLaws.{reached_first, reached_next, reached_none, reached_part, reached_wrong}
 use Rattle.judge.proofs.feed.feed.Goals as goal

@@ -1,5 +1,4 @@
 -- `judge::feed::keep` meets its contract: each turn moves one byte, and those that are still to be moved are as they were.
-use Prim.Native.Nat.{◌-◌}
 use native.Mathlib.Omega.{arith}
 use mathlib.Core.Path.{refl}
 use borrow.Author.Rules.{rules}

@@ -1,6 +1,6 @@
 -- The loop keeps: c is how many entries of the words before word k are free.
 use mathlib.Core.Path.{◌≡◌, refl, ap, ◌∙◌}
-use Prim.Native.Nat.{ℕ, ◌+◌, ◌-◌, ◌*◌, ◌/◌}
+use Prim.Native.Nat.{ℕ, ◌+◌, ◌*◌, ◌/◌}
 use native.Mathlib.Omega.{arith}
 use lib.Count.{ones-le}
 use Rattle.pools.specs.Bits.{WORD-BITS, free}

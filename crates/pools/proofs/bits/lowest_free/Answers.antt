@@ -1,6 +1,5 @@
 -- The loop keeps: no entry of the words before word k is free.
 use mathlib.Core.Path.{sym}
-use Prim.Native.Nat.{◌-◌}
 use native.Mathlib.Omega.{arith}
 use Rattle.pools.specs.Bits.{free}
 use Rattle.pools.proofs.PoolLaws.{lowest-found, lowest_none}

@@ -1,6 +1,5 @@
 -- The loop keeps: c is how many entries below i nobody uses.
 use mathlib.Core.Path.{◌≡◌, ap, ◌∙◌}
-use Prim.Native.Nat.{◌-◌, ◌≤◌}
 use native.Mathlib.Omega.{arith}
 use lib.ListN.{length}
 use Rattle.pools.specs.Pool.{count}

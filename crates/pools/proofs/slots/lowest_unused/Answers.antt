@@ -1,7 +1,5 @@
 -- The loop keeps: every entry below i is in use.
 use mathlib.Core.Path.{sym}
-use mathlib.Core.Bool.{false}
-use Prim.Native.Nat.{◌-◌}
 use native.Mathlib.Omega.{arith}
 use borrow.Author.Count.{below_more}
 use borrow.Author.Tests.{eq-eqb, ne_eqb}

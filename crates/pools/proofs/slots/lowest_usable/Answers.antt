@@ -1,7 +1,5 @@
 -- The loop keeps: no slot below i can be taken.
 use mathlib.Core.Path.{sym, ◌∙◌}
-use mathlib.Core.Bool.{false}
-use Prim.Native.Nat.{◌-◌}
 use native.Mathlib.Omega.{arith}
 use borrow.Author.Count.{below_more}
 use Rattle.pools.proofs.PoolLaws.{lowest-found, lowest_none}

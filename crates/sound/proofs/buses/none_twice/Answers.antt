@@ -1,6 +1,6 @@
 -- `sound::buses::none_twice` meets its contract.
 use native.Mathlib.Omega.{arith}
-use Prim.Native.Nat.{ℕ, ◌-◌}
+use Prim.Native.Nat.{ℕ}
 use mathlib.Core.Path.{◌≡◌, refl, ◌∙◌}
 use lib.ListN.{get_or, length-set}
 use Rattle.rules.proofs.Kept.Rules.{all_more, all_none, and_same}

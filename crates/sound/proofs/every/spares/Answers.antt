@@ -1,6 +1,5 @@
 -- `sound::every::spares` meets its contract.
 use native.Mathlib.Omega.{arith}
-use Prim.Native.Nat.{◌-◌}
 use mathlib.Core.Path.{◌≡◌}
 use Rattle.rules.proofs.Kept.Rules.{all_more, all_none}
 use Rattle.tables.specs.Sizes.{SPARES}

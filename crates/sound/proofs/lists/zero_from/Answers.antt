@@ -1,6 +1,5 @@
 -- `sound::lists::zero_from` meets its contract.
 use native.Mathlib.Omega.{arith}
-use Prim.Native.Nat.{◌-◌}
 use mathlib.Core.Path.{◌≡◌, sym}
 use mathlib.Core.Bool.{true}
 use lib.Dec.{leb}

@@ -1,6 +1,5 @@
 -- The entries of the run before e keep their rule.
 use native.Mathlib.Omega.{arith}
-use Prim.Native.Nat.{◌-◌}
 use mathlib.Core.Path.{◌≡◌, ◌∙◌}
 use Rattle.rules.proofs.Kept.Rules.{and_same}
 use Rattle.sound.specs.Kinds.{kept_rule}

@@ -1,6 +1,5 @@
 -- The entries before the run of word j keep their rule.
 use native.Mathlib.Omega.{arith}
-use Prim.Native.Nat.{◌-◌}
 use mathlib.Core.Path.{◌≡◌, ◌∙◌}
 use Rattle.rules.proofs.Kept.Rules.{all_none, and_same}
 use Rattle.sound.specs.Kinds.{kept_rule}

@@ -32,11 +32,10 @@ marks_mails-once-requires c =
     )
 
 pub marks_others-others-requires : goal.marks_others-others-requires
-marks_others-others-requires c =
-    (
-      (c.requires.0, c.requires.1),
-      c.marks_mails-once.ensures.added_held.long ∙ ap length c.copied-held.ensures ∙ bits_long c.args.k c.args.t.now c.args.p.now c.requires.0 c.requires.1 DATA-FREE (lit< tt) refl c.column-2.ensures,
-    )
+marks_others-others-requires c = (
+  (c.requires.0, c.requires.1),
+  c.marks_mails-once.ensures.added_held.long ∙ ap length c.copied-held.ensures ∙ bits_long c.args.k c.args.t.now c.args.p.now c.requires.0 c.requires.1 DATA-FREE (lit< tt) refl c.column-2.ensures,
+)
 
 pub all_marked-mails-requires : goal.all_marked-mails-requires
 all_marked-mails-requires c =

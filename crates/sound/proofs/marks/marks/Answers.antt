@@ -1,6 +1,5 @@
 -- `sound::marks::marks` meets its contract.
 use native.Mathlib.Omega.{arith}
-use Prim.Native.Nat.{◌-◌}
 use mathlib.Core.Path.{◌∙◌}
 use Rattle.sound.proofs.MarkLaws.{marks_none, marks-more, marks-end}
 use borrow.Author.Rules.{rules}

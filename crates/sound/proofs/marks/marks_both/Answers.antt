@@ -1,6 +1,5 @@
 -- `sound::marks::marks_both` meets its contract.
 use native.Mathlib.Omega.{arith}
-use Prim.Native.Nat.{◌-◌}
 use mathlib.Core.Path.{◌∙◌}
 use Rattle.sound.proofs.MarkLaws.{both_none, both-more, both_end}
 use borrow.Author.Rules.{rules}

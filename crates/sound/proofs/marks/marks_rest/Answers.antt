@@ -1,6 +1,5 @@
 -- `sound::marks::marks_rest` meets its contract.
 use native.Mathlib.Omega.{arith}
-use Prim.Native.Nat.{◌-◌}
 use mathlib.Core.Path.{◌∙◌}
 use Rattle.sound.proofs.MarkLaws.{parts_none, parts_more, parts_all}
 use borrow.Author.Rules.{rules}

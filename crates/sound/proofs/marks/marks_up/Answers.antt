@@ -1,6 +1,6 @@
 -- `sound::marks::marks_up` meets its contract.
 use native.Mathlib.Omega.{arith}
-use Prim.Native.Nat.{suc, ◌-◌}
+use Prim.Native.Nat.{suc}
 use mathlib.Core.Path.{◌∙◌}
 use Rattle.sound.proofs.MarkLaws.{marks_none, marks-more, marks-all}
 use borrow.Author.Rules.{rules}

@@ -1,6 +1,6 @@
 -- `sound::marks::resting` meets its contract.
 use native.Mathlib.Omega.{arith}
-use Prim.Native.Nat.{ℕ, ◌<◌, ◌+◌, ◌-◌, ◌*◌}
+use Prim.Native.Nat.{ℕ, ◌<◌, ◌+◌, ◌*◌}
 use mathlib.Core.Bool.{Bool}
 use Rattle.pools.specs.Bits.{WORD-BITS}
 use Rattle.sound.specs.Marks.{rests}

@@ -1,6 +1,5 @@
 -- The entries below d keep their rule.
 use native.Mathlib.Omega.{arith}
-use Prim.Native.Nat.{◌-◌}
 use mathlib.Core.Path.{◌≡◌}
 use Rattle.rules.proofs.Kept.Rules.{all_more, all_none, and_same}
 use borrow.Author.Rules.{rules}

@@ -1,9 +1,6 @@
 -- `sound::ties::link_ok` meets its contract.
-use mathlib.Core.Path.{◌≡◌, refl, sym, ◌∙◌}
-use mathlib.Core.Bool.{true}
+use mathlib.Core.Path.{refl, sym, ◌∙◌}
 use Rattle.pools.proofs.BoolLaws.{true_false}
-use Rattle.rules.specs.Rule.{test}
-use Rattle.sound.specs.Ties.{ends_in}
 use Rattle.sound.proofs.TieLaws.{link_none, ends_inside}
 use Rattle.sound.proofs.ties.link_ok.Goals as goal
 

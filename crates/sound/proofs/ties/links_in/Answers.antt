@@ -1,6 +1,5 @@
 -- `sound::ties::links_in` meets its contract.
 use native.Mathlib.Omega.{arith}
-use Prim.Native.Nat.{◌-◌}
 use mathlib.Core.Path.{◌≡◌, refl}
 use Rattle.sound.proofs.TieLaws.{turned_none, turned_more}
 use borrow.Author.Rules.{rules}

@@ -1,6 +1,5 @@
 -- `sound::values::tally` meets its contract.
 use native.Mathlib.Omega.{arith}
-use Prim.Native.Nat.{◌-◌}
 use Rattle.tables.specs.Limits.{MOST-DATAS}
 use Rattle.sound.proofs.ValueLaws.{counts_none, counts_more, counts_all, counts_few}
 use borrow.Author.Rules.{rules}

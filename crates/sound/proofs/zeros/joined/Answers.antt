@@ -1,6 +1,6 @@
 -- The numbers so far, joined, are 0 where their bytes are.
 use native.Mathlib.Omega.{arith}
-use Prim.Native.Nat.{◌+◌, ◌*◌, ◌-◌}
+use Prim.Native.Nat.{◌+◌, ◌*◌}
 use mathlib.Core.Path.{◌≡◌}
 use Rattle.rules.specs.Sound.{zeros}
 use Rattle.rules.proofs.Kept.Rules.{all_none, and_same}

@@ -1,6 +1,5 @@
 -- `sound::zeros::zero_run` meets its contract.
 use native.Mathlib.Omega.{arith}
-use Prim.Native.Nat.{◌-◌}
 use mathlib.Core.Path.{◌≡◌}
 use Rattle.rules.specs.Sound.{zeros}
 use Rattle.rules.proofs.Kept.Rules.{all_more, all_none}

@@ -1,8 +1,6 @@
 -- `tables::free::free_bit` meets its contract.
-use Prim.Native.Nat.{◌+◌, ◌≤◌}
 use native.Mathlib.Omega.{arith}
 use mathlib.Core.Path.{refl}
-use lib.ListN.{length}
 use Rattle.pools.specs.Bits.{released}
 use Rattle.pools.proofs.FreeLaws.{length-released}
 use Rattle.tables.specs.Action.{free_bit}

@@ -1,8 +1,6 @@
 -- `tables::free::take_bit` meets its contract.
-use Prim.Native.Nat.{◌+◌, ◌≤◌}
 use native.Mathlib.Omega.{arith}
 use mathlib.Core.Path.{refl}
-use lib.ListN.{length}
 use Rattle.pools.specs.Bits.{taken}
 use Rattle.pools.proofs.FreeLaws.{length_taken}
 use Rattle.tables.specs.Action.{take_bit}

@@ -1,8 +1,6 @@
 -- `tables::words::column` meets its contract.
-use Prim.Native.Nat.{◌+◌, ◌≤◌}
 use native.Mathlib.Omega.{arith}
 use mathlib.Core.Path.{refl}
-use lib.ListN.{length}
 use Rattle.tables.proofs.ViewLaws.{within, column-lent}
 use Rattle.tables.proofs.words.column.Goals as goal
 

@@ -1,7 +1,6 @@
 -- `tables::words::put` meets its contract.
-use Prim.Native.Nat.{◌+◌, ◌<◌}
+use Prim.Native.Nat.{◌+◌}
 use native.Mathlib.Omega.{arith}
-use lib.ListN.{length}
 use Rattle.tables.proofs.ViewLaws.{within, view-put, view-put_out, room_set}
 use Rattle.tables.proofs.words.put.Goals as goal
 

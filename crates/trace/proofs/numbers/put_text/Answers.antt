@@ -1,5 +1,4 @@
 -- `trace::numbers::put_text` meets its contract: each turn puts one byte.
-use Prim.Native.Nat.{◌-◌}
 use native.Mathlib.Omega.{arith}
 use mathlib.Core.Path.{refl}
 use lib.ListN.{length-set}

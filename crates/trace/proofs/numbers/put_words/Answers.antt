@@ -1,5 +1,4 @@
 -- `trace::numbers::put_words` meets its contract: each turn puts one number.
-use Prim.Native.Nat.{◌-◌}
 use native.Mathlib.Omega.{arith}
 use mathlib.Core.Path.{refl, ap, ◌∙◌}
 use lib.ListN.{length}

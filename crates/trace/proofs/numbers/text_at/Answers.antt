@@ -1,5 +1,4 @@
 -- `trace::numbers::text_at` meets its contract: each turn compares one byte.
-use Prim.Native.Nat.{◌-◌}
 use native.Mathlib.Omega.{arith}
 use mathlib.Core.Path.{sym, ◌∙◌}
 use Rattle.trace.proofs.MatchLaws.{leads-first, text_next, text_over}

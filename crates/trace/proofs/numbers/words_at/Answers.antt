@@ -1,5 +1,4 @@
 -- `trace::numbers::words_at` meets its contract: each turn compares one number.
-use Prim.Native.Nat.{◌-◌}
 use native.Mathlib.Omega.{arith}
 use mathlib.Core.Path.{sym, ◌∙◌}
 use Rattle.trace.specs.Codec.{words}
