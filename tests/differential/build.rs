@@ -31,7 +31,7 @@ fn columns(document: &Document) -> String {
     )
 }
 
-/// Links the archives, the runtime's first: it may hold the functions of records too.
+/// Links the archives.
 fn link(folder: &str) {
     for library in ["runtime", "records", "trace", "judge"] {
         let archive = format!("{folder}/lib{library}.a");
