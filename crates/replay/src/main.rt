@@ -1,12 +1,14 @@
 // Replays a trace from standard input, whatever its length, in fixed memory, and writes one line: `ok N`, `bad N` or `cut N`.
 #![tactic(auto)]
 
-ghost use Rattle.std.specs.Prelude.{true, ◌+◌, ◌≤◌, length, IfOk};
+ghost use Rattle.std.specs.Prelude.{true, ◌+◌, ◌≤◌, ◌<◌, length, take, IfOk, OnOk};
+ghost use Rattle.std.specs.Io.KnownBytes.{Appends, IsAtEnd};
 ghost use Rattle.judge.specs.Feeding.{Bench};
+ghost use Rattle.replay.specs.Said.{ReadsOn, Tells, end_of, line, line_of};
 
 use judge::feed::{feed, keep};
 use std::io;
-use std::io::Read;
+use std::io::{Read, Write};
 use tables::limits::WORDS_MOST;
 
 // The longest record has 65,537 bytes, so a piece of this size always holds a whole one.
@@ -16,24 +18,30 @@ const PIECE: usize = 131_072;
 const MANY: u64 = 9_000_000_000_000_000_000;
 
 // The one line.
-fn say(rt: &impl Print, word: &[u8], n: u64) -> io::Result<()> {
-    rt.write_all(word)?;
-    rt.println(n)
+fn say<W: Write>(out: &mut W, word: &[u8], n: u64) -> io::Result<()>
+    ensures { OnOk result (Appends (W.contents out.old) (W.contents out.new) (line word.now n)) }
+{
+    out.write_all(word)?;
+    writeln!(out, "{n}")
 }
 
 // The input has ended, and so many bytes of a record are left.
-fn ended(rt: &impl Print, left: usize, n: u64) -> io::Result<()> {
+fn ended<W: Write>(out: &mut W, left: usize, n: u64) -> io::Result<()>
+    ensures { OnOk result (Appends (W.contents out.old) (W.contents out.new) (line_of (end_of left n))) }
+{
     if left == 0 {
-        say(rt, b"ok ", n)
+        say(out, b"ok ", n)
     } else {
-        say(rt, b"cut ", n)
+        say(out, b"cut ", n)
     }
 }
 
 // As much as there is room for: how many bytes came.
-fn read_more(input: &mut impl Read, buf: &mut [u8], have: usize) -> io::Result<usize>
+fn read_more<R: Read>(input: &mut R, buf: &mut [u8], have: usize) -> io::Result<usize>
     requires { (have ≤ length buf.old) × (length buf.old ≤ 131072) }
-    ensures { IfOk result (λ n. (have + n ≤ length buf.new) × (have + n ≤ 131072)) }
+    ensures room { IfOk result (λ n. (have + n ≤ length buf.new) × (have + n ≤ 131072)) }
+    ensures bytes { IfOk result (λ n. ReadsOn (R.remaining input.old) (R.remaining input.new) (take have buf.old) (take (have + n) buf.new)) }
+    ensures end { IfOk result (λ n. have + n < length buf.old → IsAtEnd (R.remaining input.new)) }
 {
     let mut end = have;
     while end < buf.len() {
@@ -47,14 +55,15 @@ fn read_more(input: &mut impl Read, buf: &mut [u8], have: usize) -> io::Result<u
 }
 
 // One piece after the other.
-fn run(
-    rt: &impl Print,
-    input: &mut impl Read,
+fn run<R: Read, W: Write>(
+    input: &mut R,
+    out: &mut W,
     t: &mut [u64],
     p: &mut [u8],
     buf: &mut [u8],
 ) -> io::Result<()>
     requires { Bench true t.old p.old × (length buf.old ≤ 131072) }
+    ensures { 131072 ≤ length buf.old → OnOk result (Tells (R.remaining input.old) (W.contents out.old) (W.contents out.new)) }
 {
     let mut n = 0;
     let mut have = 0;
@@ -62,7 +71,7 @@ fn run(
     while pieces < MANY {
         let got = read_more(input, buf, have)?;
         if got == 0 {
-            return ended(rt, have, n);
+            return ended(out, have, n);
         }
         if MANY < n {
             return Ok(());
@@ -71,7 +80,7 @@ fn run(
         let f = feed(t, p, n, &buf[..have]);
         n = f.count;
         if f.wrong {
-            return say(rt, b"bad ", n);
+            return say(out, b"bad ", n);
         }
         have = keep(buf, f.used, have);
         pieces += 1;
@@ -83,5 +92,11 @@ fn main(rt: HostRuntime) -> io::Result<()> {
     let mut t = [0u64; WORDS_MOST];
     let mut p = [0u8; 65536];
     let mut buf = [0u8; PIECE];
-    run(&rt, &mut rt.reader(), &mut t, &mut p, &mut buf)
+    run(
+        &mut rt.reader(),
+        &mut io::writer(&rt),
+        &mut t,
+        &mut p,
+        &mut buf,
+    )
 }
