@@ -3,6 +3,7 @@ use crate::places::{byte_at, word_at};
 use crate::scene::bring;
 use runtime::host::fg_report;
 use sound::sound;
+use std::io;
 
 // One more, for a count that stays small.
 fn more(n: u64) -> u64 {
@@ -13,19 +14,19 @@ fn more(n: u64) -> u64 {
 }
 
 // A line that says whether the test and a host call refuse the buffers; how many were refused so far.
-pub fn tell(t: &mut [u64], p: &mut [u8], n: u64, name: &[u8]) -> u64 {
-    io::write_all(1, name);
+pub fn tell(rt: &impl Print, t: &mut [u64], p: &mut [u8], n: u64, name: &[u8]) -> io::Result<u64> {
+    rt.write_all(name)?;
     if sound(t, p) {
-        io::write_all(1, b" ACCEPTED\n");
-        return n;
+        rt.write_all(b" ACCEPTED\n")?;
+        return Ok(n);
     }
     let answer = fg_report(t, p);
     if answer.no != 7 {
-        io::write_all(1, b" ANSWERED\n");
-        return n;
+        rt.write_all(b" ANSWERED\n")?;
+        return Ok(n);
     }
-    io::write_all(1, b" refused\n");
-    more(n)
+    rt.write_all(b" refused\n")?;
+    Ok(more(n))
 }
 
 // Word i becomes x.
@@ -43,21 +44,21 @@ fn set_byte(p: &mut [u8], i: usize, x: u8) {
 }
 
 // Word i of column c becomes x.
-pub fn word(n: u64, name: &[u8], c: usize, i: usize, x: u64) -> u64 {
+pub fn word(rt: &impl Print, n: u64, name: &[u8], c: usize, i: usize, x: u64) -> io::Result<u64> {
     let mut t = [0u64; 1536];
     let mut p = [0u8; 2048];
     bring(&mut t, &mut p);
     set(&mut t, word_at(c, i), x);
-    tell(&mut t, &mut p, n, name)
+    tell(rt, &mut t, &mut p, n, name)
 }
 
 // Byte j of data entry e becomes x.
-pub fn byte(n: u64, name: &[u8], e: usize, j: usize, x: u8) -> u64 {
+pub fn byte(rt: &impl Print, n: u64, name: &[u8], e: usize, j: usize, x: u8) -> io::Result<u64> {
     let mut t = [0u64; 1536];
     let mut p = [0u8; 2048];
     bring(&mut t, &mut p);
     set_byte(&mut p, byte_at(e, j), x);
-    tell(&mut t, &mut p, n, name)
+    tell(rt, &mut t, &mut p, n, name)
 }
 
 // An entry's word of a column, and what it becomes.
@@ -74,21 +75,20 @@ pub fn becomes(column: usize, entry: usize, to: u64) -> Change {
 }
 
 // Two words become others.
-pub fn two(n: u64, name: &[u8], a: Change, b: Change) -> u64 {
+pub fn two(rt: &impl Print, n: u64, name: &[u8], a: Change, b: Change) -> io::Result<u64> {
     let mut t = [0u64; 1536];
     let mut p = [0u8; 2048];
     bring(&mut t, &mut p);
     set(&mut t, word_at(a.column, a.entry), a.to);
     set(&mut t, word_at(b.column, b.entry), b.to);
-    tell(&mut t, &mut p, n, name)
+    tell(rt, &mut t, &mut p, n, name)
 }
 
 // A line that says whether the buffers are sound.
-pub fn state(t: &[u64], p: &[u8], name: &[u8]) {
-    io::write_all(1, name);
+pub fn state(rt: &impl Print, t: &[u64], p: &[u8], name: &[u8]) -> io::Result<()> {
+    rt.write_all(name)?;
     if sound(t, p) {
-        io::write_all(1, b" sound\n");
-        return;
+        return rt.write_all(b" sound\n");
     }
-    io::write_all(1, b" UNSOUND\n");
+    rt.write_all(b" UNSOUND\n")
 }

@@ -1,11 +1,14 @@
 // Replays a trace from standard input, whatever its length, in fixed memory, and writes one line: `ok N`, `bad N` or `cut N`.
 #![tactic(auto)]
 
-ghost use Rattle.std.specs.Prelude.{true, ◌+◌, ◌≤◌, length};
+ghost use Rattle.std.specs.Prelude.{true, ◌+◌, ◌≤◌, ◌<◌, length, take, IfOk, OnOk};
+ghost use Rattle.std.specs.Io.KnownBytes.{Appends, IsAtEnd};
 ghost use Rattle.judge.specs.Feeding.{Bench};
+ghost use Rattle.replay.specs.Said.{ReadsOn, Tells, end_of, line, line_of};
 
 use judge::feed::{feed, keep};
-use libc::{STDIN_FILENO, STDOUT_FILENO};
+use std::io;
+use std::io::{Read, Write};
 use tables::limits::WORDS_MOST;
 
 // The longest record has 65,537 bytes, so a piece of this size always holds a whole one.
@@ -15,61 +18,85 @@ const PIECE: usize = 131_072;
 const MANY: u64 = 9_000_000_000_000_000_000;
 
 // The one line.
-fn say(word: &[u8], n: u64) {
-    io::write_all(STDOUT_FILENO, word);
-    io::print_decimal(STDOUT_FILENO, n);
-    io::write_all(STDOUT_FILENO, b"\n");
+fn say<W: Write>(out: &mut W, word: &[u8], n: u64) -> io::Result<()>
+    ensures { OnOk result (Appends (W.contents out.old) (W.contents out.new) (line word.now n)) }
+{
+    out.write_all(word)?;
+    writeln!(out, "{n}")
 }
 
 // The input has ended, and so many bytes of a record are left.
-fn ended(left: usize, n: u64) {
+fn ended<W: Write>(out: &mut W, left: usize, n: u64) -> io::Result<()>
+    ensures { OnOk result (Appends (W.contents out.old) (W.contents out.new) (line_of (end_of left n))) }
+{
     if left == 0 {
-        say(b"ok ", n);
+        say(out, b"ok ", n)
     } else {
-        say(b"cut ", n);
+        say(out, b"cut ", n)
     }
 }
 
 // As much as there is room for: how many bytes came.
-fn read_more(buf: &mut [u8], have: usize) -> usize
+fn read_more<R: Read>(input: &mut R, buf: &mut [u8], have: usize) -> io::Result<usize>
     requires { (have ≤ length buf.old) × (length buf.old ≤ 131072) }
-    ensures { (have + result ≤ length buf.new) × (have + result ≤ 131072) }
+    ensures room { IfOk result (λ n. (have + n ≤ length buf.new) × (have + n ≤ 131072)) }
+    ensures bytes { IfOk result (λ n. ReadsOn (R.remaining input.old) (R.remaining input.new) (take have buf.old) (take (have + n) buf.new)) }
+    ensures end { IfOk result (λ n. have + n < length buf.old → IsAtEnd (R.remaining input.new)) }
 {
-    let end = buf.len();
-    io::read_full(STDIN_FILENO, &mut buf[have..end])
+    let mut end = have;
+    while end < buf.len() {
+        let got = input.read(&mut buf[end..])?;
+        if got == 0 {
+            break;
+        }
+        end += got;
+    }
+    Ok(end - have)
 }
 
 // One piece after the other.
-fn run(t: &mut [u64], p: &mut [u8], buf: &mut [u8])
+fn run<R: Read, W: Write>(
+    input: &mut R,
+    out: &mut W,
+    t: &mut [u64],
+    p: &mut [u8],
+    buf: &mut [u8],
+) -> io::Result<()>
     requires { Bench true t.old p.old × (length buf.old ≤ 131072) }
+    ensures { 131072 ≤ length buf.old → OnOk result (Tells (R.remaining input.old) (W.contents out.old) (W.contents out.new)) }
 {
     let mut n = 0;
     let mut have = 0;
     let mut pieces = 0;
     while pieces < MANY {
-        let got = read_more(buf, have);
+        let got = read_more(input, buf, have)?;
         if got == 0 {
-            ended(have, n);
-            return;
+            return ended(out, have, n);
         }
         if MANY < n {
-            return;
+            return Ok(());
         }
         have += got;
         let f = feed(t, p, n, &buf[..have]);
         n = f.count;
         if f.wrong {
-            say(b"bad ", n);
-            return;
+            return say(out, b"bad ", n);
         }
         have = keep(buf, f.used, have);
         pieces += 1;
     }
+    Ok(())
 }
 
-fn main() {
+fn main(rt: HostRuntime) -> io::Result<()> {
     let mut t = [0u64; WORDS_MOST];
     let mut p = [0u8; 65536];
     let mut buf = [0u8; PIECE];
-    run(&mut t, &mut p, &mut buf);
+    run(
+        &mut rt.reader(),
+        &mut io::writer(&rt),
+        &mut t,
+        &mut p,
+        &mut buf,
+    )
 }

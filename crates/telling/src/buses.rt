@@ -3,81 +3,87 @@ use crate::places::at;
 use crate::seats::{entries_on, in_seat, subscribers_of};
 use crate::who::track_up;
 use crate::words::{counted, end_line, number, say, track};
+use std::io;
 use tables::columns::{BUS_SEATS, BUS_SIZE};
 
 // A bus by its number.
-fn bus(b: u64) {
-    say(b"bus ");
-    number(b);
+fn bus(rt: &impl Print, b: u64) -> io::Result<()> {
+    say(rt, b"bus ")?;
+    number(rt, b)
 }
 
 // So many of the most that there can be.
-fn of_most(n: u64, most: u64, what: &[u8]) {
-    number(n);
-    say(b" of ");
-    number(most);
-    say(what);
+fn of_most(rt: &impl Print, n: u64, most: u64, what: &[u8]) -> io::Result<()> {
+    number(rt, n)?;
+    say(rt, b" of ")?;
+    number(rt, most)?;
+    say(rt, what)
 }
 
 // A bus that has entries or subscribers.
-fn bus_line(t: &[u64], b: u64) {
+fn bus_line(rt: &impl Print, t: &[u64], b: u64) -> io::Result<()> {
     let entries = entries_on(t, b);
     let subscribers = subscribers_of(t, b);
     if (entries == 0) & (subscribers == 0) {
-        return;
+        return Ok(());
     }
-    bus(b);
-    say(b": ");
-    of_most(entries, at(t, BUS_SIZE, b), b" entries, ");
-    of_most(subscribers, at(t, BUS_SEATS, b), b" subscribers\n");
+    bus(rt, b)?;
+    say(rt, b": ")?;
+    of_most(rt, entries, at(t, BUS_SIZE, b), b" entries, ")?;
+    of_most(rt, subscribers, at(t, BUS_SEATS, b), b" subscribers\n")
 }
 
 // Each of them.
-pub fn each_bus(t: &[u64]) {
+pub fn each_bus(rt: &impl Print, t: &[u64]) -> io::Result<()> {
     for b in 0..32 {
-        bus_line(t, b);
+        bus_line(rt, t, b)?;
     }
+    Ok(())
 }
 
 // What a bus holds of the data entries.
-fn holds_entries(b: u64, n: u64) {
+fn holds_entries(rt: &impl Print, b: u64, n: u64) -> io::Result<()> {
     if n != 0 {
-        say(b"    ");
-        bus(b);
-        say(b" has ");
-        counted(n, b" entry\n", b" entries\n");
+        say(rt, b"    ")?;
+        bus(rt, b)?;
+        say(rt, b" has ")?;
+        counted(rt, n, b" entry\n", b" entries\n")?;
     }
+    Ok(())
 }
 
 // What each bus holds of them.
-pub fn bus_holders(t: &[u64]) {
+pub fn bus_holders(rt: &impl Print, t: &[u64]) -> io::Result<()> {
     for b in 0..32 {
-        holds_entries(b, entries_on(t, b));
+        holds_entries(rt, b, entries_on(t, b))?;
     }
+    Ok(())
 }
 
 // A subscriber that has a seat.
-fn sitter(t: &[u64], up: u64) {
+fn sitter(rt: &impl Print, t: &[u64], up: u64) -> io::Result<()> {
     if up != 0 {
-        say(b"    ");
-        track(track_up(t, up));
-        end_line();
+        say(rt, b"    ")?;
+        track(rt, track_up(t, up))?;
+        end_line(rt)?;
     }
+    Ok(())
 }
 
 // Who has the seats of bus b.
-fn sitters(t: &[u64], b: u64) {
+fn sitters(rt: &impl Print, t: &[u64], b: u64) -> io::Result<()> {
     for n in 0..32 {
-        sitter(t, in_seat(t, b, n));
+        sitter(rt, t, in_seat(t, b, n))?;
     }
+    Ok(())
 }
 
 // A bus whose seats are all taken, and by whom.
-pub fn tell_seats(t: &[u64], b: u64) {
-    say(b"  seats of bus ");
-    number(b);
-    say(b": none of ");
-    number(at(t, BUS_SEATS, b));
-    say(b" is free\n");
-    sitters(t, b);
+pub fn tell_seats(rt: &impl Print, t: &[u64], b: u64) -> io::Result<()> {
+    say(rt, b"  seats of bus ")?;
+    number(rt, b)?;
+    say(rt, b": none of ")?;
+    number(rt, at(t, BUS_SEATS, b))?;
+    say(rt, b" is free\n")?;
+    sitters(rt, t, b)
 }

@@ -1,6 +1,8 @@
 // The trace, read a large part at a time.
 use judge::feed::keep;
 use records::bytes::load16;
+use std::io;
+use std::io::Read;
 
 // The longest record: its length has two bytes, and says how many follow.
 const LONGEST: usize = 65_537;
@@ -39,38 +41,44 @@ pub fn closed() -> Window {
     }
 }
 
-// The buffer filled after its first bytes.
-fn fill_after(buf: &mut [u8], size: usize) -> Window {
+// The buffer filled after its first bytes, as far as the input has any.
+fn fill_after(input: &mut impl Read, buf: &mut [u8], size: usize) -> io::Result<Window> {
     if buf.len() < size {
-        return closed();
+        return Ok(closed());
     }
-    let room = buf.len() - size;
-    let got = io::read_full(0, &mut buf[size..]);
-    Window {
+    let mut to = size;
+    while to < buf.len() {
+        let got = input.read(&mut buf[to..])?;
+        if got == 0 {
+            break;
+        }
+        to += got;
+    }
+    Ok(Window {
         from: 0,
-        to: size + got,
-        ended: got < room,
-    }
+        to,
+        ended: to < buf.len(),
+    })
 }
 
-// A window on at least one whole record, unless the input ends before.
-pub fn filled(buf: &mut [u8], w: Window) -> Window {
+// A window on at least one whole record, unless the input ends before. An error is one of a read.
+pub fn filled(input: &mut impl Read, buf: &mut [u8], w: Window) -> io::Result<Window> {
     let from = w.from;
     let to = w.to;
     if w.ended {
-        return w;
+        return Ok(w);
     }
     if to < from {
-        return w;
+        return Ok(w);
     }
     if LONGEST <= to - from {
-        return w;
+        return Ok(w);
     }
     if buf.len() < to {
-        return w;
+        return Ok(w);
     }
     let size = keep(buf, from, to);
-    fill_after(buf, size)
+    fill_after(input, buf, size)
 }
 
 fn found(what: u64, end: usize) -> Front {

@@ -4,6 +4,7 @@ use crate::words::{counted, number, reason, say};
 use records::exit::fg_read_exit;
 use records::header::{class_of, tag_of};
 use records::tick::fg_read_tick;
+use std::io;
 use tables::columns::{LENGTH, SENDER};
 
 // The classes of what the runtime writes.
@@ -12,42 +13,41 @@ const TICK: u32 = 3;
 const NOTICE: u32 = 4;
 
 // What a track sent: the tag, from whom, how many bytes.
-fn sent(t: &[u64], p: &[u8], e: u64) {
-    say(b"tag ");
-    number(tag_of(header(p, e)) as u64);
-    say(b" from ");
-    number(at(t, SENDER, e));
-    say(b", ");
-    counted(at(t, LENGTH, e), b" byte", b" bytes");
+fn sent(rt: &impl Print, t: &[u64], p: &[u8], e: u64) -> io::Result<()> {
+    say(rt, b"tag ")?;
+    number(rt, tag_of(header(p, e)) as u64)?;
+    say(rt, b" from ")?;
+    number(rt, at(t, SENDER, e))?;
+    say(rt, b", ")?;
+    counted(rt, at(t, LENGTH, e), b" byte", b" bytes")
 }
 
 // A tick: of which timer.
-fn tick(t: &[u64], p: &[u8], e: u64) {
+fn tick(rt: &impl Print, t: &[u64], p: &[u8], e: u64) -> io::Result<()> {
     let r = fg_read_tick(payload(p, e, at(t, LENGTH, e)));
-    say(b"tick of timer ");
-    number(r.id);
+    say(rt, b"tick of timer ")?;
+    number(rt, r.id)
 }
 
 // A notice: who ended, why, and by what it was told.
-fn notice(t: &[u64], p: &[u8], e: u64) {
+fn notice(rt: &impl Print, t: &[u64], p: &[u8], e: u64) -> io::Result<()> {
     let r = fg_read_exit(payload(p, e, at(t, LENGTH, e)));
-    say(b"notice that ");
-    number(r.actor);
-    say(b" ended, ");
-    reason(r.reason as u64);
+    say(rt, b"notice that ")?;
+    number(rt, r.actor)?;
+    say(rt, b" ended, ")?;
+    reason(rt, r.reason as u64)?;
     if r.monitor == 0 {
-        say(b", by link");
-        return;
+        return say(rt, b", by link");
     }
-    say(b", by monitor ");
-    number(r.monitor);
+    say(rt, b", by monitor ")?;
+    number(rt, r.monitor)
 }
 
 // The message in data entry e.
-pub fn message(t: &[u64], p: &[u8], e: u64) {
+pub fn message(rt: &impl Print, t: &[u64], p: &[u8], e: u64) -> io::Result<()> {
     match class_of(header(p, e)) {
-        TICK => tick(t, p, e),
-        NOTICE => notice(t, p, e),
-        _ => sent(t, p, e),
+        TICK => tick(rt, t, p, e),
+        NOTICE => notice(rt, t, p, e),
+        _ => sent(rt, t, p, e),
     }
 }

@@ -3,6 +3,7 @@ use crate::left::six;
 use crate::record::number_at;
 use crate::things::{Thing, how_many};
 use crate::words::{counted, number, say};
+use std::io;
 
 // The capacities that the record of a start asks for.
 fn capacities(r: &[u8]) -> [u64; 6] {
@@ -17,22 +18,22 @@ fn capacities(r: &[u8]) -> [u64; 6] {
 }
 
 // A start that is not the first drops the tracks of the buffers as they were before.
-fn again(t: &[u64]) {
-    say(b"new start, ");
-    counted(how_many(t, Thing::Live, 0), b" track", b" tracks");
-    say(b" dropped");
+fn again(rt: &impl Print, t: &[u64]) -> io::Result<()> {
+    say(rt, b"new start, ")?;
+    counted(rt, how_many(t, Thing::Live, 0), b" track", b" tracks")?;
+    say(rt, b" dropped")
 }
 
 // The line of a start at record n.
-pub fn tell_start(t: &[u64], r: &[u8], n: u64) {
-    say(b"record ");
-    number(n);
-    say(b": ");
+pub fn tell_start(rt: &impl Print, t: &[u64], r: &[u8], n: u64) -> io::Result<()> {
+    say(rt, b"record ")?;
+    number(rt, n)?;
+    say(rt, b": ")?;
     if n == 0 {
-        say(b"start");
+        say(rt, b"start")?;
     } else {
-        again(t);
+        again(rt, t)?;
     }
-    say(b"; room for ");
-    six(capacities(r));
+    say(rt, b"; room for ")?;
+    six(rt, capacities(r))
 }

@@ -2,67 +2,69 @@
 use crate::places::at;
 use crate::words::{number, say, time};
 use rules::states::{MESSAGE, RUNNABLE, RUNS, TIMEOUT, WAITS};
+use std::io;
 use tables::columns::{DEADLINE, REASON, STATE, WANT_CLASS, WANT_SENDER, WANT_TAG};
 use tables::limits::{ANY_SENDER, ANY_TAG};
 
 // Why it is ready.
-fn ready(t: &[u64], slot: u64) {
+fn ready(rt: &impl Print, t: &[u64], slot: u64) -> io::Result<()> {
     match at(t, REASON, slot) {
-        MESSAGE => say(b", ready: a message came"),
-        TIMEOUT => say(b", ready: its wait is over"),
-        _ => say(b", ready: spawned or yielded"),
+        MESSAGE => say(rt, b", ready: a message came"),
+        TIMEOUT => say(rt, b", ready: its wait is over"),
+        _ => say(rt, b", ready: spawned or yielded"),
     }
 }
 
 // What it waits for: the class, the sender, the tag, the end.
-fn wanted_class(class: u64) {
+fn wanted_class(rt: &impl Print, class: u64) -> io::Result<()> {
     match class {
-        0 => say(b"a message"),
-        1 => say(b"a request"),
-        2 => say(b"a reply"),
-        3 => say(b"a tick"),
-        4 => say(b"a notice"),
-        _ => say(b"anything"),
+        0 => say(rt, b"a message"),
+        1 => say(rt, b"a request"),
+        2 => say(rt, b"a reply"),
+        3 => say(rt, b"a tick"),
+        4 => say(rt, b"a notice"),
+        _ => say(rt, b"anything"),
     }
 }
 
-fn wanted_sender(id: u64) {
+fn wanted_sender(rt: &impl Print, id: u64) -> io::Result<()> {
     if id != ANY_SENDER {
-        say(b" from ");
-        number(id);
+        say(rt, b" from ")?;
+        number(rt, id)?;
     }
+    Ok(())
 }
 
-fn wanted_tag(tag: u64) {
+fn wanted_tag(rt: &impl Print, tag: u64) -> io::Result<()> {
     if tag != ANY_TAG {
-        say(b" with tag ");
-        number(tag);
+        say(rt, b" with tag ")?;
+        number(rt, tag)?;
     }
+    Ok(())
 }
 
-fn wanted_until(deadline: u64) {
+fn wanted_until(rt: &impl Print, deadline: u64) -> io::Result<()> {
     if deadline == 0 {
-        say(b", for ever");
-        return;
+        return say(rt, b", for ever");
     }
-    say(b", until ");
-    time(deadline);
+    say(rt, b", until ")?;
+    time(rt, deadline)
 }
 
-fn waits(t: &[u64], slot: u64) {
-    say(b", waiting for ");
-    wanted_class(at(t, WANT_CLASS, slot));
-    wanted_sender(at(t, WANT_SENDER, slot));
-    wanted_tag(at(t, WANT_TAG, slot));
-    wanted_until(at(t, DEADLINE, slot));
+fn waits(rt: &impl Print, t: &[u64], slot: u64) -> io::Result<()> {
+    say(rt, b", waiting for ")?;
+    wanted_class(rt, at(t, WANT_CLASS, slot))?;
+    wanted_sender(rt, at(t, WANT_SENDER, slot))?;
+    wanted_tag(rt, at(t, WANT_TAG, slot))?;
+    wanted_until(rt, at(t, DEADLINE, slot))
 }
 
 // What the track in a slot is about.
-pub fn state(t: &[u64], slot: u64) {
+pub fn state(rt: &impl Print, t: &[u64], slot: u64) -> io::Result<()> {
     match at(t, STATE, slot) {
-        RUNNABLE => ready(t, slot),
-        RUNS => say(b", running"),
-        WAITS => waits(t, slot),
-        _ => {}
+        RUNNABLE => ready(rt, t, slot),
+        RUNS => say(rt, b", running"),
+        WAITS => waits(rt, t, slot),
+        _ => Ok(()),
     }
 }
