@@ -1,7 +1,7 @@
 // Replays a trace from standard input, whatever its length, in fixed memory, and writes one line: `ok N`, `bad N` or `cut N`.
 #![tactic(auto)]
 
-ghost use Rattle.std.specs.Prelude.{true, ◌+◌, ◌≤◌, ◌<◌, length, take, IfOk, OnOk};
+ghost use Rattle.std.specs.Prelude.{true, ◌+◌, ◌≡◌, ◌≤◌, ◌<◌, length, take, IfOk, OnOk};
 ghost use Rattle.std.specs.Io.KnownBytes.{Appends, IsAtEnd};
 ghost use Rattle.judge.specs.Feeding.{Bench};
 ghost use Rattle.replay.specs.Said.{ReadsOn, Tells, end_of, line, line_of};
@@ -36,12 +36,13 @@ fn ended<W: Write>(out: &mut W, left: usize, n: u64) -> io::Result<()>
     }
 }
 
-// As much as there is room for: how many bytes came.
+// As much as there is room for: how many bytes came. What was in hand stays, also where a read fails.
 fn read_more<R: Read>(input: &mut R, buf: &mut [u8], have: usize) -> io::Result<usize>
     requires { (have ≤ length buf.old) × (length buf.old ≤ 131072) }
     ensures room { IfOk result (λ n. (have + n ≤ length buf.new) × (have + n ≤ 131072)) }
     ensures bytes { IfOk result (λ n. ReadsOn (R.remaining input.old) (R.remaining input.new) (take have buf.old) (take (have + n) buf.new)) }
     ensures end { IfOk result (λ n. have + n < length buf.old → IsAtEnd (R.remaining input.new)) }
+    ensures hand { take have buf.new ≡ take have buf.old }
 {
     let mut end = have;
     while end < buf.len() {
