@@ -15,7 +15,7 @@ use Rattle.tables.specs.State.{Room, State, at, view}
 use Rattle.tables.proofs.ViewLaws.{payload-part}
 use Rattle.rules.specs.Buses.{sits, unread_length, value_of}
 use Rattle.rules.specs.Calls.{copy, out, read_entry, refusal, ruled}
-use Rattle.rules.specs.Calls.Shape.{aCopy}
+use Rattle.rules.specs.Calls.Shape.{a_copy}
 use Rattle.rules.specs.Host.{Onto}
 use Rattle.rules.specs.Terms.{runner}
 use Rattle.rules.proofs.Guards.{passed_work}
@@ -41,7 +41,7 @@ module _ (k : Caps) (s : State) (b room : ℕ) (runs : eqb (runner s) 0 ≡ fals
   -- it is
   pub read-seated : sits s b (runner s) ≡ true → ruled (read_entry b room) k s ≡ after_tests 3 (read_entry b room) k s
   unfolding ruled
-  read-seated q = passed_work (refusal aCopy) s ((read_entry b room).work k s) ((read_entry b room).tests k s) (runs, (fits, (ap not q, record {})))
+  read-seated q = passed_work (refusal a_copy) s ((read_entry b room).work k s) ((read_entry b room).tests k s) (runs, (fits, (ap not q, record {})))
 
 -- ---- bytes copied to the front of a lent slice
 copied : (m l : List ℕ) (n : ℕ) → length m ≡ n → n ≤ length l → (take n (sets l 0 m) ≡ m) × Onto n l (sets l 0 m)

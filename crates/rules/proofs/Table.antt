@@ -26,9 +26,9 @@ use Rattle.rules.specs.Aged.{monitor_pool, timer_pool}
 use Rattle.rules.specs.Terms.{runner}
 use Rattle.rules.specs.Actions.{let_go}
 use Rattle.rules.specs.Agrees.{Agrees}
-use Rattle.rules.specs.Buses.{oldest_unread as unreadAt}
+use Rattle.rules.specs.Buses.{oldest_unread as unread_at}
 use Rattle.rules.specs.Calls.{Ans, Out, Shape, entry, first_head, first_match, not_at_all, ordered, out, receive_bare, refusal, ruled}
-use Rattle.rules.specs.Calls.Shape.{a_number, anId, aTurn, aMessage, aPart, aPlace, anEnd, anAdvance, aReport, aCopy}
+use Rattle.rules.specs.Calls.Shape.{a_number, an_id, a_turn, a_message, a_part, a_place, an_end, an_advance, a_report, a_copy}
 use Rattle.rules.specs.Run.{numbers, said, say, step}
 use Rattle.rules.proofs.Reckoned.Beats.{advance_beats, armed_beats, ended_beats}
 use Rattle.rules.proofs.Reckoned.Clock.{advance_agrees, advance_counts, advance_keeps, advance_same}
@@ -64,15 +64,15 @@ use Rattle.rules.proofs.Reckoned.Ties.{link_agrees, link_same, monitor_agrees, m
 -- zeros stand beside a refusal
 pub refusal-zeroed : (h : Shape) (n : ℕ) → say h (refusal h n) ≡ zeroed (say h (refusal h n))
 refusal-zeroed a_number n = refl
-refusal-zeroed anId n = refl
-refusal-zeroed aTurn n = refl
-refusal-zeroed aMessage n = refl
-refusal-zeroed aPart n = refl
-refusal-zeroed aPlace n = refl
-refusal-zeroed anEnd n = refl
-refusal-zeroed anAdvance n = refl
-refusal-zeroed aReport n = refl
-refusal-zeroed aCopy n = refl
+refusal-zeroed an_id n = refl
+refusal-zeroed a_turn n = refl
+refusal-zeroed a_message n = refl
+refusal-zeroed a_part n = refl
+refusal-zeroed a_place n = refl
+refusal-zeroed an_end n = refl
+refusal-zeroed an_advance n = refl
+refusal-zeroed a_report n = refl
+refusal-zeroed a_copy n = refl
 
 -- ---- WHAT IS PROVED OF A CALL
 pub record Proved (o : Op) : Type 0 where
@@ -112,11 +112,11 @@ receive_works sender class tag wait a s =
 
 -- read finds a value, or nothing
 read_works : (b room : ℕ) (k : Caps) (s : State) → one_of (map found (all ∷ nothing ∷ [])) ((entry (read b room)).work k s).ans.no ≡ true
-read_works b room k s = split (ltb (unreadAt s b (runner s)) (head s ISSUED)) (λ q. rw q) (λ q. rw q)
+read_works b room k s = split (ltb (unread_at s b (runner s)) (head s ISSUED)) (λ q. rw q) (λ q. rw q)
 
 -- where it finds one it writes the columns of values
 beside_read : (b room : ℕ) (k : Caps) (s : State) → Beside AIRED s ((entry (read b room)).work k s).state
-beside_read b room k s = split (ltb (unreadAt s b (runner s)) (head s ISSUED)) (λ q. rw q (beside_read_off s b _ _)) (λ q. rw q (beside_still AIRED s))
+beside_read b room k s = split (ltb (unread_at s b (runner s)) (head s ISSUED)) (λ q. rw q (beside_read_off s b _ _)) (λ q. rw q (beside_still AIRED s))
 
 -- a row of the table: the order of a call's tests and that its work answers one of its numbers, its counts, its refusals, and the laws of its work
 row : (o : Op) → ((k : Caps) (s : State) → (ordered 0 ((entry o).tests k s) ≡ true)

@@ -72,8 +72,8 @@ wants any wanted x = eqb wanted any || eqb wanted x
 
 -- "a filter of sender, class and tag"
 unfoldable pub fits : ℕ → ℕ → ℕ → ℕ → ℕ → ℕ → Bool
-fits wantSender wantClass wantTag sender class tag =
-    wants ANY-SENDER wantSender sender && (wants ANY-CLASS wantClass class && wants ANY-TAG wantTag tag)
+fits want_sender want_class want_tag sender class tag =
+    wants ANY-SENDER want_sender sender && (wants ANY-CLASS want_class class && wants ANY-TAG want_tag tag)
 
 -- the filter of the waiting actor a matches data entry d
 abbrev pub awaits : State → ℕ → ℕ → Bool

@@ -71,7 +71,7 @@ module _ {k : Caps} {s : State} (g : Good k s) where
   pub read_down : (c i v : ℕ) → T (ltb c REST) → i < size k c → get_or (set (s c) i (suc v)) i 0 - 1 ≡ v
   read_down c i v t l = omega (arith, read_back c i (suc v) t l)
 
-  -- ---- capsRule: the head states the capacities
+  -- ---- caps_rule: the head states the capacities
   pub states_actors : head s ACTORS ≡ k.actors
   states_actors = g.caps.0.0
 
@@ -90,7 +90,7 @@ module _ {k : Caps} {s : State} (g : Good k s) where
   pub states_timers : head s TIMERS ≡ k.timers
   states_timers = g.caps.1.1.1
 
-  -- ---- headRule: the clock, the runner, the lengths of the three lists and the number of buses are in range
+  -- ---- head_rule: the clock, the runner, the lengths of the three lists and the number of buses are in range
   pub clock_fits : head s CLOCK ≤ CLOCK-END
   clock_fits = g.head.0.0
 
@@ -109,7 +109,7 @@ module _ {k : Caps} {s : State} (g : Good k s) where
   pub buses-fit : head s BUSES ≤ MOST-BUSES
   buses-fit = g.head.1.1.1
 
-  -- ---- actorRule: the words of an actor are in range
+  -- ---- actor_rule: the words of an actor are in range
   pub age_fits : (a : ℕ) → at s AGE a ≤ OLDEST
   age_fits = every_word AGE OLDEST (omega arith) (λ a l. (g.actors a l).1.0.0)
 
@@ -117,7 +117,7 @@ module _ {k : Caps} {s : State} (g : Good k s) where
   pub hand_fits : (a : ℕ) → at s HAND a ≤ k.datas
   hand_fits = every_word HAND k.datas (omega arith) (λ a l. (g.actors a l).1.1)
 
-  -- ---- idleRule: what an actor does not use is 0
+  -- ---- idle_rule: what an actor does not use is 0
   -- the three words of its filter and its deadline, where it does not wait
   pub wait_unused : (a : ℕ) → a < k.actors → (at s STATE a ≡ WAITS → ⊥)
       → ((at s WANT-SENDER a ≡ 0) × (at s WANT-CLASS a ≡ 0)) × ((at s WANT-TAG a ≡ 0) × (at s DEADLINE a ≡ 0))
@@ -126,16 +126,16 @@ module _ {k : Caps} {s : State} (g : Good k s) where
   pub deadline_unused : (a : ℕ) → a < k.actors → (at s STATE a ≡ WAITS → ⊥) → at s DEADLINE a ≡ 0
   deadline_unused a l n = (wait_unused a l n).1.1
 
-  -- ---- waitRule: a deadline is in range
+  -- ---- wait_rule: a deadline is in range
   pub deadline_fits : (a : ℕ) → at s DEADLINE a ≤ DEADLINE-END
   deadline_fits =
       used_word DEADLINE DEADLINE-END (omega arith) (λ a. eqb (at s DEADLINE a) 0) (λ a l q. eqb-true _ _ q) (λ a l q. ((g.waits a l).1.1 (eqb-false _ _ q)).1)
 
-  -- ---- listRule: who is queued has one of the slots
+  -- ---- list_rule: who is queued has one of the slots
   pub queued_fits : (i : ℕ) → i < head s QUEUED → at s QUEUE i < k.actors
   queued_fits i h = (g.queue i (omega (arith, queue-fits))).0 h
 
-  -- ---- mailRule: a mailbox entry in use
+  -- ---- mail_rule: a mailbox entry in use
   pub mail_owner_lives : (e : ℕ) → e < k.mails → not (free (s MAIL-FREE) e) ≡ true → alive (s STATE) (at s MAIL-OWNER e - 1) ≡ true
   mail_owner_lives e l u = ((g.mails e l).1 u).0.1
 
@@ -143,7 +143,7 @@ module _ {k : Caps} {s : State} (g : Good k s) where
   pub mail-fits : (e : ℕ) → at s MAIL-DATA e ≤ k.datas
   mail-fits = used_word MAIL-DATA k.datas (omega arith) (free (s MAIL-FREE)) (λ e l q. ((g.mails e l).0 q).1) (λ e l q. ((g.mails e l).1 (rw q)).1.1)
 
-  -- ---- dataRule: "Payloads are 0 to 252 bytes"
+  -- ---- data_rule: "Payloads are 0 to 252 bytes"
   pub length-fits : (d : ℕ) → at s LENGTH d ≤ PAYLOAD-MOST
   length-fits =
       used_word LENGTH PAYLOAD-MOST (omega arith) (free (s DATA-FREE)) (λ d l q. ((g.datas d l).0 q).0.1)
@@ -181,7 +181,7 @@ module _ {k : Caps} {s : State} (g : Good k s) where
   pub interval_fits : (i : ℕ) → at s INTERVAL i ≤ LONGEST
   interval_fits i = (interval_right i).0
 
-  -- ---- busRule: the settings of a bus are in range, made or not
+  -- ---- bus_rule: the settings of a bus are in range, made or not
   setting_fits : (c most b : ℕ) → c < REST → size k c ≡ MOST-BUSES → ((b : ℕ) → b < MOST-BUSES → at s c b ≤ most) → at s c b ≤ most
   setting_fits c most b h e f = every_word c most h (λ i l. f i (rw e at l)) b
 
@@ -199,7 +199,7 @@ module _ {k : Caps} {s : State} (g : Good k s) where
   pub bus-made : (b : ℕ) → b < head s BUSES → (1 ≤ at s BUS-SIZE b) × (1 ≤ at s BUS-SEATS b)
   bus-made b h = let r = ((g.buses b (omega (arith, buses-fit))).0 h).0 in (r.0.0, r.1.0)
 
-  -- ---- rowRule: who sits on a bus
+  -- ---- row_rule: who sits on a bus
   pub seat_lives : (b n : ℕ) → b < MOST-BUSES → n < MOST-SEATS → (in_seat s b n ≡ 0 → ⊥) → alive (s STATE) (in_seat s b n - 1) ≡ true
   seat_lives b n l m h = (g.rows b l n m h).1.0
 

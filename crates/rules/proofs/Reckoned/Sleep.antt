@@ -93,20 +93,20 @@ module _ (k : Caps) (s : State) where
       let a = earliest s DEADLINE DEADLINE ALWAYS k.actors in
       let x = at s DUE (i - 1) in
       let y = at s DEADLINE (a - 1) in
-      let noTimer = some_never s TIMER-OWNER DUE k.timers (λ i l. omega (arith, due-fits g i)) in
-      let noTimerYet = some-before s TIMER-OWNER DUE k.timers in
+      let no_timer = some_never s TIMER-OWNER DUE k.timers (λ i l. omega (arith, due-fits g i)) in
+      let no_timer_yet = some-before s TIMER-OWNER DUE k.timers in
       let timer = some-from s TIMER-OWNER DUE k.timers in
       let nobody = some_never s DEADLINE DEADLINE k.actors (λ a l. omega (arith, deadline_fits g a)) in
-      let nobodyYet = some-before s DEADLINE DEADLINE k.actors in
+      let nobody_yet = some-before s DEADLINE DEADLINE k.actors in
       let somebody = some-from s DEADLINE DEADLINE k.actors in
       split (eqb i 0)
       (λ p. split (eqb a 0)
-      (λ q. rw (p, q) (λ t. rw (noTimer p t, nobody q t)))
-      (λ q. rw (p, q) (λ j l. rw (noTimer p (c + j), nobodyYet q (c + j) (omega arith)), rw (noTimer p (c + (y - c)), somebody q (c + (y - c)) (omega arith)))))
+      (λ q. rw (p, q) (λ t. rw (no_timer p t, nobody q t)))
+      (λ q. rw (p, q) (λ j l. rw (no_timer p (c + j), nobody_yet q (c + j) (omega arith)), rw (no_timer p (c + (y - c)), somebody q (c + (y - c)) (omega arith)))))
       (λ p. split (eqb a 0)
-      (λ q. rw (p, q) (λ j l. rw (noTimerYet p (c + j) (omega arith), nobody q (c + j)), rw (timer p (c + (x - c)) (omega arith))))
+      (λ q. rw (p, q) (λ j l. rw (no_timer_yet p (c + j) (omega arith), nobody q (c + j)), rw (timer p (c + (x - c)) (omega arith))))
       (λ q. rw (p, q) (
-        λ j l. rw (noTimerYet p (c + j) (omega arith), nobodyYet q (c + j) (omega arith)),
+        λ j l. rw (no_timer_yet p (c + j) (omega arith), nobody_yet q (c + j) (omega arith)),
         split (leb x y)
             (λ r. rw (timer p (c + (min x y - c)) (omega (arith, leb-true x y r))))
             (λ r. rw (somebody q (c + (min x y - c)) (omega (arith, leb-false x y r)))

@@ -29,7 +29,7 @@ use Rattle.tables.specs.State.{InRange, Sized, State, at, head, poke, with_col}
 use Rattle.rules.specs.Aged.{begin_use, timer_pool, monitor_pool, next_id}
 use Rattle.rules.specs.Terms.{actor_id, alive, is_actor, joins, monitor_id, runner, runner_id, timer_id}
 use Rattle.rules.specs.Agrees.{Agrees, link_at, monitor_at, timer_at, InPool}
-use Rattle.rules.specs.Calls.{nobody as nobodyIn, arm, arm_entry, bad_interval, disarm, drop_monitors, drop_timers, link_for, link_of, monitor_for, tie, timer_for, unwatch, watch}
+use Rattle.rules.specs.Calls.{nobody as nobody_in, arm, arm_entry, bad_interval, disarm, drop_monitors, drop_timers, link_for, link_of, monitor_for, tie, timer_for, unwatch, watch}
 use Rattle.rules.specs.Run.{say_made}
 use Rattle.rules.specs.Sound.{pair_rule}
 use Rattle.rules.proofs.Reckoned.Pools.{pool_begins, pool_ends, pool_own, pool_used, slots-full, things_begin, things_end}
@@ -244,7 +244,7 @@ link_agrees partner k s l g a p =
 
 -- the tests of a call that ties the running actor to another are the reckoning's, where that for room is
 tie-same : (k : Caps) (s : State) (l : Ledger) → Good k s → Agrees k l s → (id : ℕ) (b c : Bool) → (eqb (runner s) 0 ≡ false → is_actor s id ≡ true → b ≡ c) →
-    SameTests (nobodyIn s ∷ when (eqb id (runner_id s)) malformed ∷ when (not (is_actor s id)) unknown ∷ when b full ∷ [])
+    SameTests (nobody_in s ∷ when (eqb id (runner_id s)) malformed ∷ when (not (is_actor s id)) unknown ∷ when b full ∷ [])
     (nobody l ∷ when (eqb id l.people.running) malformed ∷ when (not (known l id)) unknown ∷ when c full ∷ [])
 tie-same k s l g a id b c room = (
   idle-same k s g l a,
@@ -259,7 +259,7 @@ tie-same k s l g a id b c room = (
 
 -- those of a call that takes one back
 back-same : (k : Caps) (s : State) (l : Ledger) → Good k s → Agrees k l s → (b c : Bool) → (eqb (runner s) 0 ≡ false → b ≡ c) →
-    SameTests (nobodyIn s ∷ when (not b) unknown ∷ []) (nobody l ∷ when (not c) unknown ∷ [])
+    SameTests (nobody_in s ∷ when (not b) unknown ∷ []) (nobody l ∷ when (not c) unknown ∷ [])
 back-same k s l g a b c own = (idle-same k s g l a, refl, λ h. (ap not (own h), refl, λ z. record {}))
 
 -- linking

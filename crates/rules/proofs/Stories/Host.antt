@@ -13,7 +13,7 @@ use Rattle.tables.proofs.ViewLaws.{join-view}
 use Rattle.rules.specs.Rule.{test, Holds}
 use Rattle.rules.specs.Sound.{fit_rule, range_rule, sound_rule, view_of, Ready}
 use Rattle.rules.specs.Calls.{Ans, Out, Shape, entry, ruled}
-use Rattle.rules.specs.Calls.Shape.{a_number, anId, aTurn, aMessage, aPart, aPlace, anEnd, anAdvance, aReport, aCopy}
+use Rattle.rules.specs.Calls.Shape.{a_number, an_id, a_turn, a_message, a_part, a_place, an_end, an_advance, a_report, a_copy}
 use Rattle.rules.specs.Host.{Called, Gives, Started, answered, can_start, fresh}
 use Rattle.rules.specs.Run.{say, seven, step}
 use Rattle.rules.specs.Story.{Meets}
@@ -72,16 +72,16 @@ meets_once (op o) w p = λ c d. (c.ans ∙ sym d.ans, c.words ∙ sym d.words, c
 -- as the reckoning has it, an answer has lost nothing of the struct that C gets
 pub say-once : (h : Shape) (a b : Ans h) → say h a ≡ say h b → a ≡ b
 say-once a_number a b e = cc
-say-once anId a b e = let f : ◌≡◌ {A = Ans anId} (record { no = a.no; id = a.id }) (record { no = b.no; id = b.id }) = cc in f
-say-once aTurn a b e = let f : ◌≡◌ {A = Ans aTurn} (record { no = a.no; id = a.id; reason = a.reason; sleep = a.sleep }) (record { no = b.no; id = b.id; reason = b.reason; sleep = b.sleep }) = cc in f
-say-once aMessage a b e = let f : ◌≡◌ {A = Ans aMessage} (record { no = a.no; sender = a.sender; class = a.class; tag = a.tag; length = a.length })
+say-once an_id a b e = let f : ◌≡◌ {A = Ans an_id} (record { no = a.no; id = a.id }) (record { no = b.no; id = b.id }) = cc in f
+say-once a_turn a b e = let f : ◌≡◌ {A = Ans a_turn} (record { no = a.no; id = a.id; reason = a.reason; sleep = a.sleep }) (record { no = b.no; id = b.id; reason = b.reason; sleep = b.sleep }) = cc in f
+say-once a_message a b e = let f : ◌≡◌ {A = Ans a_message} (record { no = a.no; sender = a.sender; class = a.class; tag = a.tag; length = a.length })
     (record { no = b.no; sender = b.sender; class = b.class; tag = b.tag; length = b.length }) = cc in f
-say-once aPart a b e = cc
-say-once aPlace a b e = let f : ◌≡◌ {A = Ans aPlace} (record { no = a.no; offset = a.offset; length = a.length }) (record { no = b.no; offset = b.offset; length = b.length }) = cc in f
-say-once anEnd a b e = let f : ◌≡◌ {A = Ans anEnd} (record { no = a.no; sent = a.sent; lost = a.lost }) (record { no = b.no; sent = b.sent; lost = b.lost }) = cc in f
-say-once anAdvance a b e = let f : ◌≡◌ {A = Ans anAdvance} (record { no = a.no; fired = a.fired }) (record { no = b.no; fired = b.fired }) = cc in f
-say-once aReport a b e = let f : ◌≡◌ {A = Ans aReport} (record { no = a.no; free = a.free }) (record { no = b.no; free = b.free }) = cc in f
-say-once aCopy a b e = let f : ◌≡◌ {A = Ans aCopy} (record { no = a.no; bytes = a.bytes }) (record { no = b.no; bytes = b.bytes }) = cc in f
+say-once a_part a b e = cc
+say-once a_place a b e = let f : ◌≡◌ {A = Ans a_place} (record { no = a.no; offset = a.offset; length = a.length }) (record { no = b.no; offset = b.offset; length = b.length }) = cc in f
+say-once an_end a b e = let f : ◌≡◌ {A = Ans an_end} (record { no = a.no; sent = a.sent; lost = a.lost }) (record { no = b.no; sent = b.sent; lost = b.lost }) = cc in f
+say-once an_advance a b e = let f : ◌≡◌ {A = Ans an_advance} (record { no = a.no; fired = a.fired }) (record { no = b.no; fired = b.fired }) = cc in f
+say-once a_report a b e = let f : ◌≡◌ {A = Ans a_report} (record { no = a.no; free = a.free }) (record { no = b.no; free = b.free }) = cc in f
+say-once a_copy a b e = let f : ◌≡◌ {A = Ans a_copy} (record { no = a.no; bytes = a.bytes }) (record { no = b.no; bytes = b.bytes }) = cc in f
 
 -- so what C gets is the answer of the rule, or 7's
 pub meets_answered : (o : Op) (w p : List ℕ) (a : Ans (entry o).shape) {w' p' : List ℕ} → Meets (op o) w p (say (entry o).shape a) w' p' → a ≡ answered (entry o) w p

@@ -27,7 +27,7 @@ use Rattle.rules.specs.declared.Made.{Made}
 use Rattle.rules.specs.Aged.{timer_pool}
 use Rattle.rules.specs.Agrees.{timer_at}
 use Rattle.rules.specs.Calls.{Out, arm_entry, bad_interval, refusal, ruled, timer_for}
-use Rattle.rules.specs.Calls.Shape.{anId}
+use Rattle.rules.specs.Calls.Shape.{an_id}
 use Rattle.rules.specs.Good.{Good}
 use Rattle.rules.specs.Run.{step}
 use Rattle.rules.specs.Sound.{view_of}
@@ -56,7 +56,7 @@ New s x = x.ans.no ≡ 0 → (at s TIMER-AGE (slot_of TIMER-FACTOR x.ans.id) < a
 arm_new : (delay interval : ℕ) (bad : Bool) (k : Caps) (s : State) → Good k s → New s (ruled (arm_entry delay interval bad) k s)
 unfolding ruled
 arm_new delay interval bad k s g =
-    guarded-all (refusal anId) s ((arm_entry delay interval bad).work k s) (New s) ((arm_entry delay interval bad).tests k s)
+    guarded-all (refusal an_id) s ((arm_entry delay interval bad).work k s) (New s) ((arm_entry delay interval bad).tests k s)
     (λ y e. true_false (refuses (code y)) (why_refuses y).0 (ap refuses e))
     (λ p e. let i = timer_for k s in
     let m = ltb-true i k.timers (not-false (ltb i k.timers) (third_passed p)) in
