@@ -1,5 +1,5 @@
 -- A mask of all other bits.
-use native.Mathlib.Omega.{arith}
+use Rattle.std.proofs.Common.{arith}
 use Rattle.pools.specs.Bits.{WORD-BITS}
 use Rattle.pools.proofs.MaskLaws.{and-clear}
 use Rattle.pools.proofs.bits.cleared.Goals as goal
