@@ -1,9 +1,0 @@
--- The mask is the remainder.
-use lib.Bits.{and_mask, mask_lt}
-use Rattle.records.proofs.bytes.low.Goals as goal
-
-pub overflow_cast-result : goal.overflow_cast-result
-overflow_cast-result c = record { fits = mask_lt c.args.x 8 }
-
-pub returns : goal.returns
-returns c = and_mask c.args.x 8
