@@ -29,7 +29,7 @@ fn is_stale(t: &[u64], p: &[u8], k: Caps, i: u64) -> bool
     let age = age_of(t, p, k, d);
     let published = get(t, p, k, PUBLISHED, d);
     let clock = get(t, p, k, CLOCK, 0);
-    !(age == 0) & (published + 1000 * age <= clock)
+    age != 0 && published + 1000 * age <= clock
 }
 
 // The i-th value ends if it has reached its age.
@@ -47,9 +47,7 @@ pub fn air_all(t: &mut [u64], p: &mut [u8], k: Caps)
     requires { RoomWith k (Dated k) t.old p.old }
     ensures { Makes k aired t.old p.old t.new p.new }
 {
-    let mut left = get(t, p, k, ISSUED, 0);
-    while 0 < left {
-        left -= 1;
-        air(t, p, k, left);
+    for i in (0..get(t, p, k, ISSUED, 0)).rev() {
+        air(t, p, k, i);
     }
 }

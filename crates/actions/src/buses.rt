@@ -14,6 +14,7 @@ use tables::words::{get, put};
 
 // ---- settings
 // The next bus, with these four.
+#[tactic(auto, unfolding(rules::specs::Buses::make_bus))]
 pub fn make_bus(
     t: &mut [u64],
     p: &[u8],
@@ -49,9 +50,10 @@ fn in_seat(t: &[u64], p: &[u8], k: Caps, b: u64, n: u64) -> u64
     ensures { Reads k (λ s. in_seat s b n) t.now p.now result }
 {
     if b < MOST_BUSES as u64 {
-        return get(t, p, k, SEAT, seat_at(b, n));
+        get(t, p, k, SEAT, seat_at(b, n))
+    } else {
+        0
     }
-    0
 }
 
 // The seat of slot a on bus b; past the last where it has none.
@@ -60,12 +62,10 @@ pub fn seat_of(t: &[u64], p: &[u8], k: Caps, b: u64, a: u64) -> u64
     ensures { Reads k (λ s. seat_of s b a) t.now p.now result }
 {
     let most = MOST_SEATS as u64;
-    let mut n: u64 = 0;
-    while n < most {
+    for n in 0..most {
         if in_seat(t, p, k, b, n) == a {
             return n;
         }
-        n += 1;
     }
     most
 }
@@ -84,17 +84,16 @@ pub fn seat_for(t: &[u64], p: &[u8], k: Caps, b: u64) -> u64
     ensures { Reads k (λ s. seat_for s b) t.now p.now result }
 {
     let most = get(t, p, k, BUS_SEATS, b);
-    let mut n: u64 = 0;
-    while n < most {
+    for n in 0..most {
         if in_seat(t, p, k, b, n) == 0 {
             return n;
         }
-        n += 1;
     }
     most
 }
 
 // Slot a sits down in seat n of bus b; with 0 the seat is free.
+#[tactic(auto, unfolding(rules::specs::Buses::sit_down))]
 pub fn sit_down(t: &mut [u64], p: &[u8], k: Caps, b: u64, n: u64, a: u64)
     requires { Room k t.old p.now × (b < SAFE) × (n < SAFE) }
     ensures { Makes k (λ s. sit_down s b n a) t.old p.now t.new p.now }
@@ -109,9 +108,10 @@ fn admit(t: &[u64], p: &[u8], k: Caps, b: u64, n: u64, mask: u64) -> u64
     ensures { Reads k (λ s. cond (eqb (in_seat s b n) 0) mask (marked mask (MOST-SEATS + n))) t.now p.now result }
 {
     if in_seat(t, p, k, b, n) == 0 {
-        return mask;
+        mask
+    } else {
+        marked(mask, MOST_SEATS + n as usize)
     }
-    marked(mask, MOST_SEATS + n as usize)
 }
 
 // The mask of all who sit on bus b.
@@ -119,11 +119,9 @@ pub fn audience(t: &[u64], p: &[u8], k: Caps, b: u64) -> u64
     requires { Room k t.now p.now }
     ensures { Reads k (λ s. audience s b MOST-SEATS) t.now p.now result }
 {
-    let mut mask: u64 = 0;
-    let mut n: u64 = 0;
-    while n < MOST_SEATS as u64 {
+    let mut mask = 0;
+    for n in 0..MOST_SEATS as u64 {
         mask = admit(t, p, k, b, n, mask);
-        n += 1;
     }
     mask
 }

@@ -13,6 +13,7 @@ use tables::columns::{ARRIVAL, ARRIVED};
 use tables::words::{get, put};
 
 // The mailbox entry that arrived as the i-th is freed, with its data entry; it still stands among the arrivals.
+#[tactic(auto, unfolding(crate::specs::Emptying::discard))]
 fn discard(t: &mut [u64], p: &mut [u8], k: Caps, i: u64)
     requires { Room k t.old p.old }
     ensures { Makes k (λ s. discard s i) t.old p.old t.new p.new }
@@ -24,17 +25,19 @@ fn discard(t: &mut [u64], p: &mut [u8], k: Caps, i: u64)
 }
 
 // The i-th arrival is freed if it is slot a's; if not it stays, after those kept so far. How many are kept then.
+#[tactic(auto, unfolding(crate::specs::Emptying::sift))]
 fn sift(t: &mut [u64], p: &mut [u8], k: Caps, a: u64, kept: u64, i: u64) -> u64
     requires { Room k t.old p.old × (a < SAFE) × (kept < SAFE) }
     ensures { Does k (λ s. cond (mine s a i) kept (kept + 1)) (λ s. sift s a kept i) t.old p.old result t.new p.new }
 {
     if is_mine(t, p, k, a, i) {
         discard(t, p, k, i);
-        return kept;
+        kept
+    } else {
+        let e = get(t, p, k, ARRIVAL, i);
+        put(t, p, k, ARRIVAL, kept, e);
+        kept + 1
     }
-    let e = get(t, p, k, ARRIVAL, i);
-    put(t, p, k, ARRIVAL, kept, e);
-    kept + 1
 }
 
 // Of the arrivals the first are kept, and the others leave.
@@ -43,10 +46,8 @@ fn cut_back(t: &mut [u64], p: &[u8], k: Caps, kept: u64)
     ensures { Makes k (λ s. pull_over s kept (head s ARRIVED)) t.old p.now t.new p.now }
 {
     let n = get(t, p, k, ARRIVED, 0);
-    let mut i = kept;
-    while i < n {
+    for i in kept..n {
         put(t, p, k, ARRIVAL, i, 0);
-        i += 1;
     }
     put(t, p, k, ARRIVED, 0, kept);
 }
@@ -57,11 +58,9 @@ pub fn drop_all(t: &mut [u64], p: &mut [u8], k: Caps, a: u64)
     ensures { Makes k (λ s. drop_all (head s ARRIVED) s a) t.old p.old t.new p.new }
 {
     let n = get(t, p, k, ARRIVED, 0);
-    let mut kept: u64 = 0;
-    let mut i: u64 = 0;
-    while i < n {
+    let mut kept = 0;
+    for i in 0..n {
         kept = sift(t, p, k, a, kept, i);
-        i += 1;
     }
     cut_back(t, p, k, kept);
 }

@@ -29,15 +29,13 @@ fn forget(t: &mut [u64], p: &[u8], k: Caps, b: u64, n: u64)
     requires { Room k t.old p.now × (b < SAFE) × (n < MOST-SEATS) }
     ensures { Makes k (forget b n k.datas) t.old p.now t.new p.now }
 {
-    let m = k.datas as u64;
-    let mut d: u64 = 0;
-    while d < m {
+    for d in 0..k.datas as u64 {
         forget_one(t, p, k, b, n, d);
-        d += 1;
     }
 }
 
 // Seat n of bus b is given up.
+#[tactic(auto, unfolding(rules::specs::Buses::stand_up))]
 pub fn stand_up(t: &mut [u64], p: &[u8], k: Caps, b: u64, n: u64)
     requires { Room k t.old p.now × (b < SAFE) × (n < MOST-SEATS) }
     ensures { Makes k (λ s. stand_up k s b n) t.old p.now t.new p.now }
@@ -63,9 +61,7 @@ pub fn leave_buses(t: &mut [u64], p: &[u8], k: Caps, a: u64)
     ensures { Makes k (λ s. leave_buses k a (head s BUSES) s) t.old p.now t.new p.now }
 {
     let n = get(t, p, k, BUSES, 0);
-    let mut b: u64 = 0;
-    while b < n {
+    for b in 0..n {
         leave_bus(t, p, k, a, b);
-        b += 1;
     }
 }

@@ -1,20 +1,12 @@
 // Who reads a value: two masks of 32 bits in one word, who has read it in the low half and who may still read it in the high half.
 ghost use Rattle.std.specs.Prelude.{◌≡◌, ◌<◌};
 ghost use Rattle.tables.specs.Limits.{MOST-SEATS};
-ghost use Rattle.rules.specs.Buses.{has_read, may_read, read_by, signed};
+ghost use Rattle.rules.specs.Buses.{may_read, read_by, signed};
 
 use pools::bits::{bit_of, cleared, marked};
 use tables::limits::MOST_SEATS;
 
-// Has the one in seat n read it?
-fn has_read(mask: u64, n: u64) -> bool
-    requires { n < MOST-SEATS }
-    ensures { result ≡ has_read mask n }
-{
-    bit_of(mask, n as usize) == 1
-}
-
-// May it still read it?
+// May the one in seat n still read it?
 pub fn may_read(mask: u64, n: u64) -> bool
     requires { n < MOST-SEATS }
     ensures { result ≡ may_read mask n }
@@ -26,13 +18,7 @@ pub fn may_read(mask: u64, n: u64) -> bool
 pub fn read_by(mask: u64) -> u64
     ensures { result ≡ read_by mask }
 {
-    let mut c: u64 = 0;
-    let mut n: u64 = 0;
-    while n < MOST_SEATS as u64 {
-        c += has_read(mask, n) as u64;
-        n += 1;
-    }
-    c
+    u64::from((mask % (1 << MOST_SEATS)).count_ones())
 }
 
 // The one in seat n reads it: its bit goes from one mask to the other.

@@ -45,6 +45,7 @@ fn put_header(t: &[u64], p: &mut [u8], k: Caps, d: u64, header: u32)
 }
 
 // Data entry d is taken, and holds a message.
+#[tactic(auto, unfolding(rules::specs::Actions::fill))]
 pub fn fill(t: &mut [u64], p: &mut [u8], k: Caps, d: u64, sender: u64, header: u32, payload: &[u8])
     requires { Room k t.old p.old × (d < k.datas) × (length payload.now ≤ PAYLOAD-MOST) }
     ensures { Makes k (λ s. fill s d sender header payload.now) t.old p.old t.new p.new }
@@ -75,6 +76,7 @@ fn wipe(t: &[u64], p: &mut [u8], k: Caps, d: u64)
 }
 
 // Data entry d is freed, and all zero.
+#[tactic(auto, unfolding(rules::specs::Actions::unfill))]
 pub fn unfill(t: &mut [u64], p: &mut [u8], k: Caps, d: u64)
     requires { Room k t.old p.old }
     ensures { Makes k (λ s. unfill s d) t.old p.old t.new p.new }
@@ -84,16 +86,16 @@ pub fn unfill(t: &mut [u64], p: &mut [u8], k: Caps, d: u64)
 }
 
 // The data entry in the hand of slot a is released.
+#[tactic(auto, unfolding(rules::specs::Actions::let_go))]
 pub fn let_go(t: &mut [u64], p: &mut [u8], k: Caps, a: u64)
     requires { Room k t.old p.old }
     ensures { Makes k (λ s. let_go s a) t.old p.old t.new p.new }
 {
     let hand = get(t, p, k, HAND, a);
-    if hand == 0 {
-        return;
+    if hand != 0 {
+        unfill(t, p, k, hand - 1);
+        put(t, p, k, HAND, a, 0);
     }
-    unfill(t, p, k, hand - 1);
-    put(t, p, k, HAND, a, 0);
 }
 
 // ---- whose mailbox names it
@@ -109,6 +111,7 @@ pub fn enlist(t: &mut [u64], p: &[u8], k: Caps, e: u64, a: u64, d: u64)
 }
 
 // Mailbox entry e is freed: it is nobody's, and names no data entry.
+#[tactic(auto, unfolding(crate::specs::Emptying::disown))]
 pub fn disown(t: &mut [u64], p: &[u8], k: Caps, e: u64)
     requires { Room k t.old p.now }
     ensures { Makes k (λ s. disown s e) t.old p.now t.new p.now }
@@ -145,13 +148,11 @@ pub fn hears(t: &[u64], p: &[u8], k: Caps, a: u64, sender: u64, header: u32) -> 
     requires { Room k t.now p.now }
     ensures { Reads k (λ s. hears s a sender header) t.now p.now result }
 {
-    let state = get(t, p, k, STATE, a);
-    let class = class_in(header);
-    let tag = tag_in(header);
-    (state == WAITS) & suits(t, p, k, a, sender, class, tag)
+    get(t, p, k, STATE, a) == WAITS && suits(t, p, k, a, sender, class_in(header), tag_in(header))
 }
 
 // Slot a becomes runnable if it waits for such a message.
+#[tactic(auto, unfolding(rules::specs::Actions::stir))]
 pub fn stir(t: &mut [u64], p: &[u8], k: Caps, a: u64, sender: u64, header: u32)
     requires { RoomWith k (λ s. head s QUEUED ≤ SAFE) t.old p.now }
     ensures { Makes k (λ s. stir s a sender header) t.old p.now t.new p.now }

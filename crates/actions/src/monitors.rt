@@ -10,6 +10,7 @@ use tables::columns::{MONITOR_AGE, WATCHED, WATCHER};
 use tables::words::{get, put};
 
 // A use of monitor slot i begins: a watches b.
+#[tactic(auto, unfolding(rules::specs::Aged::begin_use))]
 pub fn watch(t: &mut [u64], p: &[u8], k: Caps, i: u64, a: u64, b: u64)
     requires { RoomWith k (λ s. at s MONITOR-AGE i ≤ OLDEST) t.old p.now }
     ensures { Makes k (λ s. watch s i a b) t.old p.now t.new p.now }
@@ -21,6 +22,7 @@ pub fn watch(t: &mut [u64], p: &[u8], k: Caps, i: u64, a: u64, b: u64)
 }
 
 // The use of monitor slot i ends.
+#[tactic(auto, unfolding(rules::specs::Aged::end_use))]
 pub fn unwatch(t: &mut [u64], p: &[u8], k: Caps, i: u64)
     requires { Room k t.old p.now }
     ensures { Makes k (λ s. unwatch s i) t.old p.now t.new p.now }

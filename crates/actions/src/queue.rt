@@ -33,8 +33,7 @@ pub fn first_head(t: &[u64], p: &[u8], k: Caps) -> u64
     let n = get(t, p, k, QUEUED, 0);
     let mut first = n;
     let mut best = LEVELS;
-    let mut i: u64 = 0;
-    while i < n {
+    for i in 0..n {
         let level = level_of(t, p, k, i);
         if level == 0 {
             return i;
@@ -43,7 +42,6 @@ pub fn first_head(t: &[u64], p: &[u8], k: Caps) -> u64
             best = level;
             first = i;
         }
-        i += 1;
     }
     first
 }
@@ -54,12 +52,10 @@ pub fn queue_place(t: &[u64], p: &[u8], k: Caps, a: u64) -> u64
     ensures { Reads k (λ s. place_of s a) t.now p.now result }
 {
     let n = get(t, p, k, QUEUED, 0);
-    let mut i: u64 = 0;
-    while i < n {
+    for i in 0..n {
         if get(t, p, k, QUEUE, i) == a {
             return i;
         }
-        i += 1;
     }
     n
 }
@@ -97,11 +93,7 @@ fn match_at(t: &[u64], p: &[u8], k: Caps, a: u64, sender: u64, class: u64, tag: 
     requires { Room k t.now p.now × (a < SAFE) }
     ensures { Reads k (λ s. match_at s a sender class tag i) t.now p.now result }
 {
-    if is_mine(t, p, k, a, i) {
-        let d = data_of(t, p, k, i);
-        return fits_entry(t, p, k, sender, class, tag, d);
-    }
-    false
+    is_mine(t, p, k, a, i) && fits_entry(t, p, k, sender, class, tag, data_of(t, p, k, i))
 }
 
 // The first arrival of slot a that the filter matches; past the arrivals where there is none.
@@ -110,12 +102,10 @@ pub fn first_match(t: &[u64], p: &[u8], k: Caps, a: u64, sender: u64, class: u64
     ensures { Reads k (λ s. first_match s a sender class tag) t.now p.now result }
 {
     let n = get(t, p, k, ARRIVED, 0);
-    let mut i: u64 = 0;
-    while i < n {
+    for i in 0..n {
         if match_at(t, p, k, a, sender, class, tag, i) {
             return i;
         }
-        i += 1;
     }
     n
 }

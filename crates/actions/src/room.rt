@@ -63,7 +63,5 @@ pub fn has_room(t: &[u64], p: &[u8], k: Caps) -> bool
     requires { Room k t.now p.now }
     ensures { Reads k (has_room k) t.now p.now result }
 {
-    let mail = mail_for(t, p, k);
-    let entry = data_for(t, p, k);
-    (mail < k.mails as u64) & (entry < k.datas as u64)
+    mail_for(t, p, k) < k.mails as u64 && data_for(t, p, k) < k.datas as u64
 }

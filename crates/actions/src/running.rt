@@ -28,6 +28,7 @@ pub fn ready(t: &mut [u64], p: &[u8], k: Caps, a: u64, reason: u64)
 }
 
 // Slot a waits no more.
+#[tactic(auto, unfolding(rules::specs::Actions::unwait))]
 pub fn unwait(t: &mut [u64], p: &[u8], k: Caps, a: u64)
     requires { Room k t.old p.now }
     ensures { Makes k (λ s. unwait s a) t.old p.now t.new p.now }
@@ -56,6 +57,7 @@ pub fn halt(t: &mut [u64], p: &[u8], k: Caps)
 }
 
 // Slot a, which is runnable, leaves the queue.
+#[tactic(auto, unfolding(rules::specs::Calls::unqueue))]
 pub fn unqueue(t: &mut [u64], p: &[u8], k: Caps, a: u64)
     requires { Room k t.old p.now × Of k (λ s. Standing k s a) t.old p.now × Of k (λ s. at s STATE a ≡ RUNNABLE) t.old p.now }
     ensures { Makes k (λ s. unqueue s a) t.old p.now t.new p.now }
@@ -66,17 +68,16 @@ pub fn unqueue(t: &mut [u64], p: &[u8], k: Caps, a: u64)
 }
 
 // Slot a runs, is runnable or waits no more.
+#[tactic(auto, unfolding(rules::specs::Calls::loosen))]
 pub fn loosen(t: &mut [u64], p: &[u8], k: Caps, a: u64)
     requires { RoomWith k (λ s. Standing k s a) t.old p.now }
     ensures { Makes k (λ s. loosen s a) t.old p.now t.new p.now }
 {
     if get(t, p, k, RUNNING, 0) == a + 1 {
         halt(t, p, k);
-        return;
-    }
-    if get(t, p, k, STATE, a) == RUNNABLE {
+    } else if get(t, p, k, STATE, a) == RUNNABLE {
         unqueue(t, p, k, a);
-        return;
+    } else {
+        unwait(t, p, k, a);
     }
-    unwait(t, p, k, a);
 }

@@ -13,19 +13,16 @@ fn earliest_in(used: &[u64], time: &[u64], limit: u64, n: usize) -> u64
     requires { (n ≤ length used.now) × (n ≤ length time.now) }
     ensures { result ≡ earliest_in used.now time.now limit n }
 {
-    let mut best: usize = 0;
-    let mut first: u64 = 0;
-    let mut i: usize = 0;
-    while i < n {
-        let word = used[i];
-        let when = time[i];
-        if (!(word == 0) & (when <= limit)) & ((best == 0) | (when < first)) {
-            best = i + 1;
-            first = when;
+    let mut best: Option<usize> = None;
+    for i in 0..n {
+        if used[i] != 0 && time[i] <= limit {
+            match best {
+                Some(b) if time[b] <= time[i] => {}
+                _ => best = Some(i),
+            }
         }
-        i += 1;
     }
-    best as u64
+    best.map_or(0, |i| i as u64 + 1)
 }
 
 // Of the first n entries the one with the earliest time, one up; of equal ones the lowest. 0 where none is due.

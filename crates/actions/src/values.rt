@@ -42,12 +42,10 @@ pub fn oldest_on(t: &[u64], p: &[u8], k: Caps, b: u64) -> u64
     ensures { Reads k (λ s. oldest_on s b) t.now p.now result }
 {
     let n = get(t, p, k, ISSUED, 0);
-    let mut i: u64 = 0;
-    while i < n {
+    for i in 0..n {
         if is_on(t, p, k, b, i) {
             return i;
         }
-        i += 1;
     }
     n
 }
@@ -66,10 +64,7 @@ fn is_unread(t: &[u64], p: &[u8], k: Caps, b: u64, n: u64, i: u64) -> bool
     requires { Room k t.now p.now × (b < SAFE) × (n < MOST-SEATS) }
     ensures { Reads k (λ s. is_unread s b n i) t.now p.now result }
 {
-    let on = is_on(t, p, k, b, i);
-    let d = value_at(t, p, k, i);
-    let mask = get(t, p, k, READERS, d);
-    on & may_read(mask, n)
+    is_on(t, p, k, b, i) && may_read(get(t, p, k, READERS, value_at(t, p, k, i)), n)
 }
 
 // The oldest of bus b that slot a, written one up, has not read; past the row where there is none, or where it is not subscribed.
@@ -79,15 +74,13 @@ pub fn oldest_unread(t: &[u64], p: &[u8], k: Caps, b: u64, a: u64) -> u64
 {
     let n = get(t, p, k, ISSUED, 0);
     let seat = seat_of(t, p, k, b, a);
-    if !(seat < MOST_SEATS as u64) {
+    if seat >= MOST_SEATS as u64 {
         return n;
     }
-    let mut i: u64 = 0;
-    while i < n {
+    for i in 0..n {
         if is_unread(t, p, k, b, seat, i) {
             return i;
         }
-        i += 1;
     }
     n
 }
@@ -128,6 +121,7 @@ pub fn retire(t: &mut [u64], p: &mut [u8], k: Caps, j: u64)
 
 // ---- publishing
 // The oldest value of bus b ends if the bus is full.
+#[tactic(auto, unfolding(rules::specs::Buses::evict))]
 fn evict(t: &mut [u64], p: &mut [u8], k: Caps, b: u64)
     requires { RoomWith k (λ s. (b < SAFE) × (bus_full s b ≡ true → oldest_on s b < head s ISSUED) × (head s ISSUED ≤ k.datas)) t.old p.old }
     ensures { Makes k (λ s. evict s b) t.old p.old t.new p.new }
@@ -155,8 +149,7 @@ fn read_out(t: &[u64], p: &[u8], k: Caps, b: u64, d: u64) -> bool
     ensures { Reads k (λ s. read_out_of s b d) t.now p.now result }
 {
     let reads = get(t, p, k, BUS_READS, b);
-    let mask = get(t, p, k, READERS, d);
-    !(reads == 0) & (reads <= read_by(mask))
+    reads != 0 && reads <= read_by(get(t, p, k, READERS, d))
 }
 
 // The one in seat n signs data entry d.

@@ -10,10 +10,11 @@ use tables::limits::{ANY_CLASS, ANY_SENDER, ANY_TAG};
 use tables::words::get;
 
 // Is a wanted number the one that is there, or does it stand for any?
+#[tactic(auto, unfolding(rules::specs::Terms::wants))]
 fn wants(any: u64, wanted: u64, x: u64) -> bool
     ensures { result ≡ wants any wanted x }
 {
-    (wanted == any) | (wanted == x)
+    wanted == any || wanted == x
 }
 
 // Does a filter of sender, class and tag match?
@@ -28,7 +29,8 @@ pub fn fits(
     ensures { result ≡ fits want_sender want_class want_tag sender class tag }
 {
     wants(ANY_SENDER, want_sender, sender)
-        & (wants(ANY_CLASS, want_class, class) & wants(ANY_TAG, want_tag, tag))
+        && wants(ANY_CLASS, want_class, class)
+        && wants(ANY_TAG, want_tag, tag)
 }
 
 // Does the filter of slot a match data entry d? Its tag is asked first: where that differs nothing else is read.
@@ -36,15 +38,12 @@ pub fn awaited(t: &[u64], p: &[u8], k: Caps, a: u64, d: u64) -> bool
     requires { Room k t.now p.now }
     ensures { Reads k (λ s. awaits s a d) t.now p.now result }
 {
-    let tag = get(t, p, k, WANT_TAG, a);
     let header = header_at(t, p, k, d);
-    if !wants(ANY_TAG, tag, tag_in(header)) {
-        return false;
-    }
-    let by = get(t, p, k, WANT_SENDER, a);
-    let sender = get(t, p, k, SENDER, d);
-    let class = get(t, p, k, WANT_CLASS, a);
-    let from = wants(ANY_SENDER, by, sender);
-    let kind = wants(ANY_CLASS, class, class_in(header));
-    from & kind
+    wants(ANY_TAG, get(t, p, k, WANT_TAG, a), tag_in(header))
+        && wants(
+            ANY_SENDER,
+            get(t, p, k, WANT_SENDER, a),
+            get(t, p, k, SENDER, d),
+        )
+        && wants(ANY_CLASS, get(t, p, k, WANT_CLASS, a), class_in(header))
 }

@@ -15,21 +15,22 @@ pub fn header_at(t: &[u64], p: &[u8], k: Caps, d: u64) -> u32
     ensures { Reads k (λ s. header s d) t.now p.now result }
 {
     if d < k.datas as u64 {
-        return load32(p, ENTRY_BYTES * (d as usize));
+        load32(p, ENTRY_BYTES * d as usize)
+    } else {
+        0
     }
-    0
 }
 
 // The class that a header tells.
 pub fn class_in(header: u32) -> u64
     ensures { result ≡ class_of header }
 {
-    class_of(header) as u64
+    u64::from(class_of(header))
 }
 
 // The tag.
 pub fn tag_in(header: u32) -> u64
     ensures { result ≡ tag_of header }
 {
-    tag_of(header) as u64
+    u64::from(tag_of(header))
 }

@@ -5,5 +5,5 @@ ghost use Rattle.std.specs.Prelude.{◌≡◌, ◌-◌};
 pub fn named(word: u64) -> u64
     ensures { result ≡ word - 1 }
 {
-    if word == 0 { 0 } else { word - 1 }
+    word.saturating_sub(1)
 }

@@ -8,7 +8,7 @@ ghost use Rattle.tables.specs.State.{size, Room, Reads, Makes};
 ghost use Rattle.tables.specs.Action.{take_bit, free_bit};
 
 use crate::Caps;
-use crate::layout::place_of;
+use crate::layout::words_of;
 use crate::words::column;
 use pools::{bits, slots};
 
@@ -33,10 +33,7 @@ pub fn take_bit(t: &mut [u64], p: &[u8], k: Caps, c: usize, e: u64)
     requires { Room k t.old p.now × (c < REST) }
     ensures { Makes k (λ s. take_bit s c e) t.old p.now t.new p.now }
 {
-    let place = place_of(k, c);
-    let from = place.from;
-    let end = from + place.size;
-    bits::take(&mut t[from..end], e as usize);
+    bits::take(&mut t[words_of(k, c)], e as usize);
 }
 
 // Entry e is free again.
@@ -44,10 +41,7 @@ pub fn free_bit(t: &mut [u64], p: &[u8], k: Caps, c: usize, e: u64)
     requires { Room k t.old p.now × (c < REST) }
     ensures { Makes k (λ s. free_bit s c e) t.old p.now t.new p.now }
 {
-    let place = place_of(k, c);
-    let from = place.from;
-    let end = from + place.size;
-    bits::release(&mut t[from..end], e as usize);
+    bits::release(&mut t[words_of(k, c)], e as usize);
 }
 
 // The lowest entry of column c that nobody uses; the size where all are in use.

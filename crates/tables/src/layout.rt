@@ -1,5 +1,5 @@
 // Where each column lies in the table.
-ghost use Rattle.std.specs.Prelude.{◌≡◌, ◌+◌, ◌*◌, ◌<◌, get_or};
+ghost use Rattle.std.specs.Prelude.{◌≡◌, ◌+◌, ◌*◌, ◌<◌, ◌≤◌, get_or};
 ghost use Rattle.tables.specs.Columns.{REST};
 ghost use Rattle.tables.specs.Limits.{SAFE};
 ghost use Rattle.tables.specs.State.{caps_of, needed, needed_p, start, size, InRange};
@@ -14,6 +14,7 @@ use crate::sizes::{
     ALL_SEATS, BIT_WORDS, BITS, FIXED, HEADS, PER_ACTOR, PER_BUS, PER_DATA, PER_LINK, PER_MAIL,
     PER_MONITOR, PER_TIMER, SPARES,
 };
+use std::ops::Range;
 
 // A column: its first word, and how many words it has.
 #[derive(Clone, Copy)]
@@ -26,10 +27,7 @@ pub struct Place {
 pub fn word(t: &[u64], i: usize) -> usize
     ensures { result ≡ get_or t.now i 0 }
 {
-    if i < t.len() {
-        return t[i] as usize;
-    }
-    0
+    t.get(i).copied().unwrap_or(0) as usize
 }
 
 // The capacities that the head of the table states.
@@ -130,4 +128,13 @@ pub fn place_of(k: Caps, c: usize) -> Place
         k.timers,
         c - TIMER_OWNER,
     )
+}
+
+// The words of column c, by their places in the table.
+pub(crate) fn words_of(k: Caps, c: usize) -> Range<usize>
+    requires { InRange k × (c < REST) }
+    ensures { (result.start ≡ start k c) × (result.end ≡ start k c + size k c) × (result.end ≤ needed k) }
+{
+    let place = place_of(k, c);
+    place.from..place.from + place.size
 }

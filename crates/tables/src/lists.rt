@@ -6,10 +6,11 @@ ghost use Rattle.tables.specs.State.{head, with_col, size, Room, RoomWith, Makes
 ghost use Rattle.tables.specs.Action.{closed, push, pull};
 
 use crate::Caps;
-use crate::layout::place_of;
+use crate::layout::words_of;
 use crate::words::{get, put};
 
 // v joins the tail.
+#[tactic(auto, unfolding(crate::specs::Action::push))]
 pub fn push(t: &mut [u64], p: &[u8], k: Caps, list: usize, count: usize, v: u64)
     requires { RoomWith k (λ s. (list < REST) × (count < REST) × (head s count ≤ SAFE)) t.old p.now }
     ensures { Makes k (λ s. push s list count v) t.old p.now t.new p.now }
@@ -24,13 +25,9 @@ fn close_up(q: &mut [u64], j: usize)
     requires { j < length q.old }
     ensures { q.new ≡ closed (length q.old) j q.old }
 {
-    let n = q.len() - 1;
-    let mut i = j;
-    while i < n {
-        q[i] = q[i + 1];
-        i += 1;
-    }
-    q[n] = 0;
+    let last = q.len() - 1;
+    q.copy_within(j + 1.., j);
+    q[last] = 0;
 }
 
 // The j-th of the n words of column c leaves.
@@ -38,13 +35,12 @@ fn close_column(t: &mut [u64], p: &[u8], k: Caps, c: usize, n: usize, j: usize)
     requires { Room k t.old p.now × (c < REST) × (n ≤ size k c) × (j < n) }
     ensures { Makes k (λ s. with_col s c (closed n j (s c))) t.old p.now t.new p.now }
 {
-    let place = place_of(k, c);
-    let from = place.from;
-    let end = from + n;
-    close_up(&mut t[from..end], j);
+    let from = words_of(k, c).start;
+    close_up(&mut t[from..from + n], j);
 }
 
 // The j-th of a list leaves it.
+#[tactic(auto, unfolding(crate::specs::Action::pull))]
 pub fn pull(t: &mut [u64], p: &[u8], k: Caps, list: usize, count: usize, j: u64)
     requires { RoomWith k (λ s. (list < REST) × (count < REST) × (j < head s count) × (head s count ≤ size k list)) t.old p.now }
     ensures { Makes k (λ s. pull s list count j) t.old p.now t.new p.now }

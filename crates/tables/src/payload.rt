@@ -14,11 +14,7 @@ pub fn copy(q: &mut [u8], from: usize, m: &[u8])
     requires { from + length m.now ≤ length q.old }
     ensures { q.new ≡ sets q.old from m.now }
 {
-    let mut i = 0;
-    while i < m.len() {
-        q[from + i] = m[i];
-        i += 1;
-    }
+    q[from..from + m.len()].copy_from_slice(m);
 }
 
 // n zeros over q.
@@ -26,11 +22,7 @@ pub fn zero(q: &mut [u8], from: usize, n: usize)
     requires { from + n ≤ length q.old }
     ensures { q.new ≡ sets q.old from (replicate n 0) }
 {
-    let mut i = 0;
-    while i < n {
-        q[from + i] = 0;
-        i += 1;
-    }
+    q[from..from + n].fill(0);
 }
 
 // The bytes of m go into entry d, from its byte i on.
@@ -54,8 +46,9 @@ pub fn byte(t: &[u64], p: &[u8], k: Caps, d: u64, i: usize) -> u64
     requires { Room k t.now p.now × (i < ENTRY-BYTES) }
     ensures { Reads k (λ s. at s PAYLOAD (ENTRY-BYTES * d + i)) t.now p.now result }
 {
-    if (d as usize) < k.datas {
-        return p[ENTRY_BYTES * (d as usize) + i] as u64;
+    if d < k.datas as u64 {
+        p[ENTRY_BYTES * (d as usize) + i] as u64
+    } else {
+        0
     }
-    0
 }

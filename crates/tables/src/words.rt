@@ -4,17 +4,14 @@ ghost use Rattle.tables.specs.Columns.{REST};
 ghost use Rattle.tables.specs.State.{at, poke, Room, Reads, Makes};
 
 use crate::Caps;
-use crate::layout::{place_of, word};
+use crate::layout::{place_of, word, words_of};
 
 // Column c.
 pub fn column<'a>(t: &'a [u64], p: &[u8], k: Caps, c: usize) -> &'a [u64]
     requires { Room k t.now p.now × (c < REST) }
     ensures { Reads k (λ s. s c) t.now p.now result.now }
 {
-    let place = place_of(k, c);
-    let from = place.from;
-    let end = from + place.size;
-    &t[from..end]
+    &t[words_of(k, c)]
 }
 
 // Word i of column c.
@@ -31,9 +28,8 @@ pub fn put(t: &mut [u64], p: &[u8], k: Caps, c: usize, i: u64, v: u64)
     ensures { Makes k (λ s. poke s c i v) t.old p.now t.new p.now }
 {
     let place = place_of(k, c);
-    let from = place.from;
     let j = i as usize;
     if j < place.size {
-        t[from + j] = v;
+        t[place.from + j] = v;
     }
 }

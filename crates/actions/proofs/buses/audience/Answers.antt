@@ -1,7 +1,5 @@
 -- The mask is that of the seats before n.
-use mathlib.Core.Path.{◌≡◌, refl, ap, ◌∙◌}
-use native.Mathlib.Omega.{arith}
-use Rattle.tables.specs.Limits.{MOST-SEATS}
+use mathlib.Core.Path.{refl}
 use Rattle.tables.specs.State.{view}
 use Rattle.rules.specs.Buses.{audience}
 use Rattle.actions.proofs.BusLaws.{audience-next}
@@ -9,17 +7,10 @@ use Rattle.actions.proofs.buses.audience.Goals as goal
 
 pub loop-n-init : goal.loop-n-init
 unfolding audience
-loop-n-init c = (omega arith, refl)
+loop-n-init c = refl
 
 pub loop-n-preserved : goal.loop-n-preserved
 loop-n-preserved c =
     let a = c.args in
     let s = view a.k a.t.now a.p.now in
-    (omega arith, rw (audience-next s a.b c.loop-n.n, c.admit-mask.ensures, c.loop-n.invariant.1))
-
-pub returns : goal.returns
-returns c =
-    let a = c.args in
-    let s = view a.k a.t.now a.p.now in
-    let e : c.loop-n.n ≡ MOST-SEATS = omega arith in
-    c.loop-n.invariant.1 ∙ ap (audience s a.b) e
+    rw (audience-next s a.b c.loop-n.n, c.admit-mask.ensures, c.loop-n.invariant)

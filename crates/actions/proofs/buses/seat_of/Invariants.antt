@@ -1,5 +1,4 @@
 -- The slot sits in no seat before n.
-use Prim.Native.Nat.{◌-◌}
 use lib.Dec.{eqb}
 use Rattle.tables.specs.Limits.{MOST-SEATS}
 use Rattle.tables.specs.State.{view}
@@ -9,6 +8,3 @@ use Rattle.actions.proofs.buses.seat_of.Given as goal
 
 abbrev pub invariant-loop-n : goal.invariant-loop-n
 invariant-loop-n l = Searched (λ n. eqb (in_seat (view l.k l.t l.p) l.b n) l.a) MOST-SEATS l.most l.n
-
-abbrev pub decreases-loop-n : goal.decreases-loop-n
-decreases-loop-n l = l.most - l.n

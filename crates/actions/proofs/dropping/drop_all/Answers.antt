@@ -1,11 +1,9 @@
 -- The mailbox is being emptied, and i arrivals were passed.
-use mathlib.Core.Path.{refl}
 use native.Mathlib.Omega.{arith}
 use Rattle.tables.specs.Columns.{ARRIVAL, ARRIVED}
 use Rattle.tables.specs.State.{view}
 use Rattle.tables.proofs.ViewLaws.{view-full}
 use Rattle.actions.proofs.DropLaws.{pass_start, pass_turn, pass_end}
-use borrow.Author.Rules.{rules}
 use Rattle.actions.proofs.dropping.drop_all.Goals as goal
 
 pub loop-i-init : goal.loop-i-init
@@ -13,25 +11,13 @@ loop-i-init c =
     let a = c.args in
     let long = view-full a.k a.t.now a.p.now c.requires.0.words in
     let z = pass_start (view a.k a.t.now a.p.now) a.a c.get-n.result c.get-n.ensures (omega (arith, c.get-n.ensures, c.requires.2, long ARRIVAL (omega arith))) (omega (arith, long ARRIVED (omega arith))) in
-    (c.requires.0, z, refl, refl)
-
-pub sift-kept-requires : goal.sift-kept-requires
-sift-kept-requires c =
-    let l = c.loop-i in
-    let g = c.get-n in
-    (l.invariant.0, c.requires.1, omega (arith, l.invariant.1.stay, c.loop-i-test, g.ensures, c.requires.2, l.invariant.0.caps.few_mails))
+    (c.requires.0, z)
 
 pub loop-i-preserved : goal.loop-i-preserved
 loop-i-preserved c =
     let f = c.sift-kept in
     let z = pass_turn c.loop-i.invariant.1 (omega arith) f.result f.ensures.0 in
-    (f.ensures.1.room, rw f.ensures.1.is z, search rules, search rules)
-
-pub cut_back-requires : goal.cut_back-requires
-cut_back-requires c =
-    let l = c.loop-i in
-    let g = c.get-n in
-    (l.invariant.0, (omega (arith, l.invariant.1.all, l.invariant.1.stay, l.invariant.1.within), omega (arith, l.invariant.1.all, g.ensures, c.requires.2)))
+    (f.ensures.1.room, rw f.ensures.1.is z)
 
 pub returns : goal.returns
 returns c =

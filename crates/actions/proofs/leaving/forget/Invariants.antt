@@ -1,13 +1,8 @@
 -- The data entries before d were passed.
-use Prim.Native.Nat.{◌-◌, ◌≤◌}
 use mathlib.Core.Path.{◌≡◌}
-use lib.ListN.{length}
 use Rattle.tables.specs.State.{view, Room}
 use Rattle.rules.specs.Buses.{forget}
 use Rattle.actions.proofs.leaving.forget.Given as goal
 
 abbrev pub invariant-loop-d : goal.invariant-loop-d
-invariant-loop-d l = (l.d ≤ l.m) × Room l.k l.t l.p × (view l.k l.t l.p ≡ forget l.b l.n l.d (view l.k l.initial.t l.p)) × (length l.t ≡ length l.initial.t)
-
-abbrev pub decreases-loop-d : goal.decreases-loop-d
-decreases-loop-d l = l.m - l.d
+invariant-loop-d l = Room l.k l.t l.p × (view l.k l.t l.p ≡ forget l.b l.n l.d (view l.k l.initial.t l.p))

@@ -1,5 +1,4 @@
 -- No link entry below e joins the two.
-use Prim.Native.Nat.{◌-◌}
 use Rattle.tables.specs.Columns.{LINK-ONE, LINK-TWO}
 use Rattle.tables.specs.State.{view}
 use Rattle.rules.specs.Terms.{joins}
@@ -8,6 +7,3 @@ use Rattle.actions.proofs.links.link_of.Given as goal
 
 abbrev pub invariant-loop-e : goal.invariant-loop-e
 invariant-loop-e l = Searched (joins (view l.k l.t l.p LINK-ONE) (view l.k l.t l.p LINK-TWO) l.a l.b) l.k.links l.n l.e
-
-abbrev pub decreases-loop-e : goal.decreases-loop-e
-decreases-loop-e l = l.n - l.e

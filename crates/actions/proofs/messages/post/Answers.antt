@@ -6,12 +6,6 @@ use Rattle.rules.proofs.Kept.Messages.{room_free}
 use Rattle.actions.proofs.ActionLaws.{enlist_queued, fill-arrived, fill_queued}
 use Rattle.actions.proofs.messages.post.Goals as goal
 
-pub fill-requires : goal.fill-requires
-fill-requires c =
-    let a = c.args in
-    let g = (room_free a.k (view a.k a.t.now a.p.now) c.requires.1.0).0 in
-    (c.requires.0, rw c.data_for-d.ensures g, c.requires.1.1)
-
 pub enlist-requires : goal.enlist-requires
 enlist-requires c =
     let a = c.args in

@@ -1,5 +1,4 @@
 -- The slot stands at none of the places before i.
-use Prim.Native.Nat.{◌-◌}
 use lib.Dec.{eqb}
 use Rattle.tables.specs.Columns.{QUEUE, QUEUED}
 use Rattle.tables.specs.State.{at, head, view}
@@ -8,6 +7,3 @@ use Rattle.actions.proofs.queue.queue_place.Given as goal
 
 abbrev pub invariant-loop-i : goal.invariant-loop-i
 invariant-loop-i l = Searched (λ i. eqb (at (view l.k l.t l.p) QUEUE i) l.a) (head (view l.k l.t l.p) QUEUED) l.n l.i
-
-abbrev pub decreases-loop-i : goal.decreases-loop-i
-decreases-loop-i l = l.n - l.i

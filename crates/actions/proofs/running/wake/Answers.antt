@@ -7,7 +7,3 @@ pub ready-requires : goal.ready-requires
 unfolding unwait with_col poke
 ready-requires c =
     (c.unwait.ensures.room, rw c.unwait.ensures.is c.requires.1)
-
-pub returns : goal.returns
-returns c =
-    record { is = rw (c.ready.ensures.is, c.unwait.ensures.is); room = c.ready.ensures.room }

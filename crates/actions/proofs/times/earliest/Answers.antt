@@ -7,6 +7,3 @@ earliest_in-requires c =
     let a = c.args in
     let f = view-full a.k a.t.now a.p.now c.requires.0.words in
     (rw (c.column.ensures, f a.used c.requires.1) c.requires.3, rw (c.column-2.ensures, f a.time c.requires.2) c.requires.4)
-
-pub returns : goal.returns
-returns c = rw (c.column.ensures, c.column-2.ensures) at c.earliest_in.ensures

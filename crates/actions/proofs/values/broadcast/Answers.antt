@@ -7,11 +7,6 @@ use Rattle.rules.specs.Buses.{broadcast}
 use Rattle.actions.proofs.BusLaws.{evict-issued}
 use Rattle.actions.proofs.values.broadcast.Goals as goal
 
-pub evict-requires : goal.evict-requires
-evict-requires c =
-    let z = c.requires.1.0 in
-    (c.requires.0, (z.small, z.oldest, z.issued))
-
 pub issue-requires : goal.issue-requires
 issue-requires c =
     let a = c.args in

@@ -1,5 +1,4 @@
 -- None before i is the bus's, and unread.
-use Prim.Native.Nat.{◌-◌}
 use Rattle.tables.specs.Columns.{ISSUED}
 use Rattle.tables.specs.State.{head, view}
 use Rattle.rules.specs.Buses.{is_unread}
@@ -8,6 +7,3 @@ use Rattle.actions.proofs.values.oldest_unread.Given as goal
 
 abbrev pub invariant-loop-i : goal.invariant-loop-i
 invariant-loop-i l = Searched (is_unread (view l.k l.t l.p) l.b l.seat) (head (view l.k l.t l.p) ISSUED) l.n l.i
-
-abbrev pub decreases-loop-i : goal.decreases-loop-i
-decreases-loop-i l = l.n - l.i

@@ -8,5 +8,5 @@ pub returns-then-d-k : goal.returns-then-d-k
 returns-then-d-k c = let a = c.args in
     c.load32.ensures ∙ sym (header_lies a.k a.t.now a.p.now a.d (omega arith))
 
-pub returns : goal.returns
-returns c = let a = c.args in sym (header-past a.k a.t.now a.p.now a.d (omega arith))
+pub returns-else-d-k : goal.returns-else-d-k
+returns-else-d-k c = let a = c.args in sym (header-past a.k a.t.now a.p.now a.d (omega arith))

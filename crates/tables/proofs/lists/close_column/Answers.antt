@@ -7,24 +7,14 @@ use lib.Seq.{length-take-le}
 use Rattle.tables.specs.State.{view}
 use Rattle.tables.specs.Action.{closed}
 use Rattle.tables.proofs.LoopLaws.{length-closed, closed_front}
-use Rattle.tables.proofs.ViewLaws.{within, view-full, part-lent, part_left}
+use Rattle.tables.proofs.ViewLaws.{view-full, part-lent, part_left}
 use Rattle.tables.proofs.lists.close_column.Goals as goal
-
--- the n words end within the table
-pub overflow_add-end : goal.overflow_add-end
-overflow_add-end c = omega (arith, within c.args.k c.args.t.now c.args.p.now c.args.c c.args.n c.requires.0 (omega arith))
-
-pub offset_bounds-t-from : goal.offset_bounds-t-from
-offset_bounds-t-from c = omega (arith, within c.args.k c.args.t.now c.args.p.now c.args.c c.args.n c.requires.0 (omega arith))
-
-pub slice_bounds-close_up-end : goal.slice_bounds-close_up-end
-slice_bounds-close_up-end c = omega (arith, within c.args.k c.args.t.now c.args.p.now c.args.c c.args.n c.requires.0 (omega arith))
 
 pub returns : goal.returns
 returns c =
     let a = c.args in
-    let o = c.place_of-place in
-    let from = o.result.from in
+    let o = c.words_of-from in
+    let from = o.result.start in
     let v = view a.k a.t.now a.p.now a.c in
     let q = take a.n v in
     let long : length q ≡ a.n = length-take-le a.n v (omega (arith, view-full a.k a.t.now a.p.now c.requires.0.words a.c c.requires.1)) in

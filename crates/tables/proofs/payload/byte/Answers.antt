@@ -11,7 +11,7 @@ returns-then-d-k c =
     let a = c.args in
     sym (view_get_p a.k a.t.now a.p.now c.requires.0 (ENTRY-BYTES * a.d + a.i) (omega arith))
 
-pub returns : goal.returns
-returns c =
+pub returns-else-d-k : goal.returns-else-d-k
+returns-else-d-k c =
     let a = c.args in
     sym (view_out_p a.k a.t.now a.p.now c.requires.0 (ENTRY-BYTES * a.d + a.i) (omega arith))

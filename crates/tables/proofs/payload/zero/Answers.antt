@@ -1,20 +1,14 @@
 -- `tables::payload::zero` meets its contract.
+use mathlib.Core.Path.{◌≡◌}
 use native.Mathlib.Omega.{arith}
-use mathlib.Core.Path.{◌≡◌, refl}
-use lib.ListN.{length-set}
-use Rattle.tables.proofs.LoopLaws.{zero_turn}
+use Prim.Native.Nat.{ℕ}
+use lib.ListN.{replicate, length-replicate}
+use borrow.Author.Rules.{rules}
+use Rattle.tables.proofs.LoopLaws.{sets_part}
 use Rattle.tables.proofs.payload.zero.Goals as goal
-
-pub loop-i-init : goal.loop-i-init
-loop-i-init c = (omega arith, refl, refl)
-
-pub loop-i-preserved : goal.loop-i-preserved
-loop-i-preserved c =
-    let l = c.loop-i in
-    (omega arith, simp length-set l.invariant.1, rw l.invariant.2 (zero_turn c.args.q.now c.args.from l.i))
 
 pub returns : goal.returns
 returns c =
-    let l = c.loop-i in
-    let e : l.i ≡ c.args.n = omega arith in
-    rw e at l.invariant.2
+    let e = length-replicate {A = ℕ} c.args.n 0 in
+    let f : c.fill.new.self ≡ replicate c.args.n 0 = search rules in
+    sets_part c.args.q.now _ (replicate c.args.n 0) c.args.from _ f (omega arith) (omega arith)

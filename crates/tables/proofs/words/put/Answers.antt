@@ -8,11 +8,11 @@ use Rattle.tables.proofs.words.put.Goals as goal
 pub overflow_add-t : goal.overflow_add-t
 overflow_add-t c = omega (arith, within c.args.k c.args.t.now c.args.p.now c.args.c (c.args.i + 1) c.requires.0 (omega arith))
 
-pub offset_bounds-t-from : goal.offset_bounds-t-from
-offset_bounds-t-from c = omega (arith, within c.args.k c.args.t.now c.args.p.now c.args.c (c.args.i + 1) c.requires.0 (omega arith))
+pub offset_bounds-t-place : goal.offset_bounds-t-place
+offset_bounds-t-place c = omega (arith, within c.args.k c.args.t.now c.args.p.now c.args.c (c.args.i + 1) c.requires.0 (omega arith))
 
-pub bounds-t-from : goal.bounds-t-from
-bounds-t-from c = omega (arith, within c.args.k c.args.t.now c.args.p.now c.args.c (c.args.i + 1) c.requires.0 (omega arith))
+pub bounds-t-place : goal.bounds-t-place
+bounds-t-place c = omega (arith, within c.args.k c.args.t.now c.args.p.now c.args.c (c.args.i + 1) c.requires.0 (omega arith))
 
 pub returns-then-j-place : goal.returns-then-j-place
 returns-then-j-place c =
