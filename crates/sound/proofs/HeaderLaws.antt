@@ -1,14 +1,14 @@
 -- Header and length of a message, by ranges of the header's number.
-use Prim.Native.Nat.{ℕ, ◌≤◌, ◌<◌}
+use Prim.Native.Nat.{ℕ, ◌≤◌}
 use native.Mathlib.Omega.{arith}
 use mathlib.Core.Path.{◌≡◌, refl, sym}
 use mathlib.Core.Bool.{Bool, true, false, ◌&&◌, ◌||◌}
-use lib.Dec.{leb, eqb}
-use borrow.Author.Tests.{leb-true, le-leb, eqb-true, eqb-false, eq-eqb}
+use lib.Dec.{eqb}
+use borrow.Author.Tests.{eqb-true, eqb-false, eq-eqb}
 use Rattle.pools.proofs.BoolLaws.{split, and_left, and_right, and_true}
 use Rattle.records.specs.Header.{class_of}
 use Rattle.records.specs.Records.{EXIT-BYTES, TICK-BYTES}
-use Rattle.tables.specs.Limits.{ANY-TAG, PAYLOAD-MOST}
+use Rattle.tables.specs.Limits.{ANY-TAG}
 use Rattle.rules.specs.Rule.{Rule, both, test, Holds}
 use Rattle.rules.specs.Sound.{header_rule, length_rule}
 use Rattle.rules.proofs.Kept.Rules.{same_test}
@@ -26,13 +26,6 @@ or_cases false b e f g = g e
 
 abbrev headed_rule : ℕ → ℕ → Rule
 headed_rule h n = both (header_rule h) (length_rule (class_of h) n)
-
--- a notification: any length will do
-pub notification_test : (h n : ℕ) → h < ANY-TAG → leb n PAYLOAD-MOST ≡ test (headed_rule h n)
-notification_test h n l =
-    sym (same_test (headed_rule h n) (leb n PAYLOAD-MOST)
-    (λ (_, (most, _)). le-leb n PAYLOAD-MOST most)
-    (λ t. ((λ z. (omega arith, omega arith), λ d. absurd (d (omega arith))), (leb-true n PAYLOAD-MOST t, (λ e. absurd (omega arith), λ e. absurd (omega arith))))))
 
 tick-holds : (h n : ℕ) → h ≡ 939524096 → n ≡ TICK-BYTES → Holds (headed_rule h n)
 tick-holds h n e f = ((λ z. absurd (omega arith), λ d. ((omega arith, omega arith), (omega arith, omega arith))), (omega arith, (λ z. f, λ z. absurd (omega arith))))

@@ -15,6 +15,11 @@ pub or-test : (x y : ℕ) → eqb (bit_or x y) 0 ≡ eqb x 0 && eqb y 0
 or-test zero y = rw or_zero_l
 or-test (suc x) y = or_some x y ∙ sym (rw (ne_eqb (suc x) 0 (λ e. omega arith)))
 
+-- ---- a test that is denied twice
+pub twice : (b : Bool) → not (not b) ≡ b
+twice true = refl
+twice false = refl
+
 -- ---- a rule of two parts, of which a test says which one counts
 pub pick_yes : {b x : Bool} (y : Bool) {r : Bool} → b ≡ true → r ≡ x → r ≡ (not b || x) && (not (not b) || y)
 pick_yes {b} {x} y e q = rw (e, q) (and_yes x)

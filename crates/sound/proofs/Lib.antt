@@ -1,4 +1,5 @@
 -- Laws that belong to no one function.
+pub mod EachLaws
 pub mod BusLaws
 pub mod JoinLaws
 pub mod SlotLaws

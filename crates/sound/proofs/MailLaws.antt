@@ -1,6 +1,5 @@
 -- The rules of a mailbox entry with its owner's filter, and where the filters and the pairs stand among the others.
-use Prim.Native.Nat.{ℕ, ◌+◌, ◌-◌, ◌*◌, ◌≤◌, ◌<◌}
-use native.Mathlib.Decide.{dec_lt}
+use Prim.Native.Nat.{ℕ, ◌+◌, ◌-◌, ◌*◌, ◌/◌, ◌≤◌, ◌<◌, min}
 use native.Mathlib.Omega.{arith}
 use mathlib.Core.Path.{◌≡◌, refl, sym, ◌∙◌}
 use mathlib.Core.List.{List}
@@ -8,14 +7,13 @@ use mathlib.Core.Bool.{Bool, true, false, not, ◌&&◌, ◌||◌}
 use lib.Bits.{bit_or}
 use lib.Dec.{eqb, leb}
 use lib.ListN.{get_or}
-use borrow.Author.Tests.{eq-eqb, le-leb, not-true}
+use borrow.Author.Tests.{eq-eqb, not-true}
 use Rattle.pools.specs.Bits.{bit, free}
 use Rattle.pools.proofs.BoolLaws.{true_false, and_right}
 use Rattle.rules.specs.Rule.{Rule, test, each, both, imp, le, eq}
-use Rattle.rules.proofs.Kept.Rules.{all_more, reads}
-use Rattle.rules.specs.Sound.{slot_rule, arrival_rule, box_rule, data_rule, link_rule, plain_rules, across_rules}
+use Rattle.rules.specs.Sound.{arrival_rule, box_rule, plain_rules, across_rules}
 use Rattle.rules.specs.Terms.{WAITS, alive, awaits}
-use Rattle.sound.specs.Kinds.{keep_rule, kept_rule, front_rules, box_rules, data_rules, filter_rules, pair_rules, count_rules, early_rules, body_rules}
+use Rattle.sound.specs.Kinds.{keep_rule, kept_rule, front_rules, filter_rules, count_rules, early_rules, body_rules}
 use Rattle.sound.specs.Standing.{Standing, lives_in, waits_in_of}
 use Rattle.sound.proofs.ListLaws.{same_rule}
 use Rattle.sound.proofs.MarkLaws.{of_ones}
@@ -54,24 +52,13 @@ module _ (k : Caps) (s : State) (e : ℕ) where
   pub kept_free : free (s MAIL-FREE) e ≡ true → eqb (bit_or (at s MAIL-OWNER e) (at s MAIL-DATA e)) 0 ≡ test (kept_rule k s e)
   kept_free f = or-test (at s MAIL-OWNER e) (at s MAIL-DATA e) ∙ spare (eqb (at s MAIL-OWNER e) 0 && eqb (at s MAIL-DATA e) 0) _ _ _ f
 
-  pub kept_used : free (s MAIL-FREE) e ≡ false → test (keep_rule k s (at s MAIL-OWNER e) (at s MAIL-DATA e)) ≡ test (kept_rule k s e)
-  kept_used f = rw f
-
 -- ---- runs of entries
--- those below a, and then those from a on
-pub each_on : (f : ℕ → Rule) (a b : ℕ) → a ≤ b → test (each a f) && test (each b (λ e. imp (le a e) (f e))) ≡ test (each b f)
-each_on f a b h =
-    same_rule (each b f) (both (each a f) (each b (λ e. imp (le a e) (f e))))
-    (λ q. (λ e l. q e (omega arith), λ e l m. q e l))
-    (λ q e l. elim (dec_lt e a) [ yes m ↦ q.0 e m | no m ↦ q.1 e l (omega arith) ])
-
--- one more of those from a on
-pub each_next : (f : ℕ → Rule) (a i : ℕ) → a ≤ i → test (each i (λ e. imp (le a e) (f e))) && test (f i) ≡ test (each (i + 1) (λ e. imp (le a e) (f e)))
-each_next f a i h = sym (all_more (λ e. test (imp (le a e) (f e))) i ∙ rw (le-leb a i h))
-
--- none of those from a on is below a
-pub each-past : (f : ℕ → Rule) (a : ℕ) → true ≡ test (each a (λ e. imp (le a e) (f e)))
-each-past f a = sym ((reads (each a (λ e. imp (le a e) (f e)))).1 (λ e l m. absurd (omega arith)))
+-- one after the other, all of them
+pub runs_of : (f : ℕ → Rule) (n w : ℕ) → n ≤ 64 * w → test (each w (λ j. each (min n (64 * j + 64)) (λ e. imp (le (64 * j) e) (f e)))) ≡ test (each n f)
+runs_of f n w b =
+    same_rule (each n f) (each w (λ j. each (min n (64 * j + 64)) (λ e. imp (le (64 * j) e) (f e))))
+    (λ h j l e m a. h e (omega arith))
+    (λ h e l. h (e / 64) (omega arith) e (omega arith) (omega arith))
 
 -- a run that is free
 module _ (k : Caps) (s : State) (a b : ℕ) (q : (e : ℕ) → a ≤ e → e < b → free (s MAIL-FREE) e ≡ true) where
@@ -95,20 +82,6 @@ module _ (k : Caps) (s : State) where
       same_rule (both (each k.mails (λ e. box_rule k s e)) (filter_rules k s)) (both (each k.mails (λ e. kept_rule k s e)) (each k.mails (λ e. arrival_rule k s e)))
       (λ h. (λ e l. ((h.0 e l).0, h.1 e l), λ e l. (h.0 e l).1))
       (λ h. (λ e l. ((h.0 e l).0, h.1 e l), λ e l. (h.0 e l).1))
-
-  -- the slots and then those two
-  pub slots-first : test (both (each k.actors (λ a. slot_rule k s a)) (both (each k.mails (λ e. box_rule k s e)) (filter_rules k s))) ≡ test (both (box_rules k s) (filter_rules k s))
-  slots-first =
-      same_rule (both (box_rules k s) (filter_rules k s)) (both (each k.actors (λ a. slot_rule k s a)) (both (each k.mails (λ e. box_rule k s e)) (filter_rules k s)))
-      (λ ((slots, boxes), filters). (slots, (boxes, filters)))
-      (λ (slots, (boxes, filters)). ((slots, boxes), filters))
-
-  -- the data entries, and then the links with the pairs
-  pub datas-first : test (both (each k.datas (λ d. data_rule s d)) (both (each k.links (λ e. link_rule s e)) (pair_rules k s))) ≡ test (both (data_rules k s) (pair_rules k s))
-  datas-first =
-      same_rule (both (data_rules k s) (pair_rules k s)) (both (each k.datas (λ d. data_rule s d)) (both (each k.links (λ e. link_rule s e)) (pair_rules k s)))
-      (λ ((datas, links), pairs). (datas, (links, pairs)))
-      (λ (datas, (links, pairs)). ((datas, links), pairs))
 
   -- ---- all rules, in the order that they are tested in
   pub plain-parts : test (both (front_rules k s) (body_rules k s)) ≡ test (early_rules k s)

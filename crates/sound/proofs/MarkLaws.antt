@@ -10,15 +10,16 @@ use mathlib.Core.List.{List, [], ◌∷◌, ◌++◌}
 use mir.Val.{bool_byte}
 use lib.Bits.{bit_and, bit_or, and_mask, or_shifted_r}
 use lib.Dec.{eqb, lit<, ltb}
-use lib.ListN.{length, get_or, set, take, drop, length-take, length-drop, take-append-drop}
+use lib.ListN.{length, get_or, get_or-append, set, take, drop, length-append, length-take, length-drop, take-append-drop}
+use Rattle.std.proofs.lemmas.List.{get_or-append-add}
 use lib.Pow.{pow_pos, high, shl_exact, mod-pow-add}
-use lib.Seq.{take-suc, take_all, take-add, drop-drop, get_or-take, get_or-drop}
+use lib.Seq.{take-suc, take_all, get_or-take, get_or-drop}
 use borrow.Author.Tests.{eqb-true, eqb-false, eq-eqb, ltb-false, ltb-true, ne_eqb, not-true, not-false}
 use Rattle.pools.specs.Bits.{WORD-BITS, bit, free, released}
 use Rattle.pools.specs.Pool.{occurs}
 use Rattle.pools.proofs.MaskLaws.{and-bit, or-mark}
 use Rattle.pools.proofs.BitLaws.{bit-zero, bit_suc, bit_cases, add-other}
-use Rattle.pools.proofs.BoolLaws.{split, true_false, and_left, and_right, and_true, same_bool, flag≤, flag_not, flag_pos}
+use Rattle.pools.proofs.BoolLaws.{split, true_false, and_left, and_right, and_true, flag≤, flag_not, flag_pos}
 use Rattle.pools.proofs.FreeLaws.{released-same, released-other, length-released}
 use Rattle.pools.proofs.ListLaws.{occurs-append, occurs_snoc, occurs-place}
 use Rattle.rules.specs.Rule.{test, both, each, eq, is, lt, le, imp, Holds}
@@ -133,13 +134,6 @@ module _ (list : List ℕ) (f : ℕ → ℕ) where
       Added (λ e. bool_byte (eqb (get_or list i 0) (f e))) r s' s'' → Added (λ e. occurs (f e) (take (i + 1) list)) (ok && r) s s''
   marks-more {i} l a b = added_as (λ e. sym (occurs-more list i (f e) l)) (added_both a b)
 
-  -- all of them
-  pub marks-end : (i n : ℕ) {ok : Bool} {s s' : List ℕ} → Added (λ e. occurs (f e) (take i list)) ok s s' → i ≡ n → Added (λ e. occurs (f e) (take n list)) ok s s'
-  marks-end i n a z = added_as (λ e. ap (λ (j : ℕ). occurs (f e) (take j list)) z) a
-
-  pub marks-all : (i : ℕ) {ok : Bool} {s s' : List ℕ} → Added (λ e. occurs (f e) (take i list)) ok s s' → length list ≤ i → Added (λ e. occurs (f e) list) ok s s'
-  marks-all i a l = added_as (λ e. ap (occurs (f e)) (take_all i list l)) a
-
 -- two lists, side by side
 module _ (list names : List ℕ) where
   pub both_none : (seen held : List ℕ) → AddedBoth (λ e. occurs e (take 0 list)) (λ d. occurs (suc d) (take 0 names)) true seen seen held held
@@ -182,74 +176,32 @@ zero_names list h d =
       | no m ↦ omega arith
     ]
 
--- a part of a list
-module _ (list : List ℕ) (from to : ℕ) where
-  part_at : (i : ℕ) → i < length (take (to - from) (drop from list)) → (from + i < to) × (from + i < length list) × (get_or (take (to - from) (drop from list)) i 0 ≡ get_or list (from + i) 0)
-  part_at i l =
-      let q : i < to - from = omega (arith, length-take (to - from) (drop from list)) in
-      (omega arith, omega (arith, length-take (to - from) (drop from list), length-drop from list), get_or-take (to - from) (drop from list) i 0 q ∙ get_or-drop from list i 0)
+-- where all words are 0 no entry is named
+pub none_named : (list seen : List ℕ) → true ≡ test (each (length list) (λ i. imp (le 0 i) (eq (get_or list i 0) 0))) → Added (λ d. occurs (suc d) list) true seen seen
+none_named list seen t = added_none seen (zero_names list (λ i l. (reads (each (length list) (λ i. imp (le 0 i) (eq (get_or list i 0) 0)))).0 (sym t) i l (omega arith)))
 
-  pub part-below : (m : ℕ) → Below m (length list) list → Below m (length (take (to - from) (drop from list))) (take (to - from) (drop from list))
-  part-below m b i l = let e = part_at i l in omega (arith, e.2, b (from + i) e.1)
-
-  -- where its words are 0 it names no entry
-  pub part_none : (seen : List ℕ) → true ≡ test (each to (λ i. imp (le from i) (eq (get_or list i 0) 0))) → Added (λ d. occurs (suc d) (take (to - from) (drop from list))) true seen seen
-  part_none seen t = added_none seen (zero_names (take (to - from) (drop from list)) (λ i l.
-      let e = part_at i l in
-      e.2 ∙ (reads (each to (λ i. imp (le from i) (eq (get_or list i 0) 0)))).0 (sym t) (from + i) e.0 (omega arith)))
+pub rest_is : (list : List ℕ) (n : ℕ) → take (length list - n) (drop n list) ≡ drop n list
+rest_is list n = take_all (length list - n) (drop n list) (omega (arith, length-drop n list))
 
 -- where the words are 0 from the n-th on
 ended_none : (list : List ℕ) (n : ℕ) → Ended n list → (d : ℕ) → occurs (suc d) (drop n list) ≡ 0
 ended_none list n h = zero_names (drop n list) (λ i l. get_or-drop n list i 0 ∙ h (n + i) (omega arith) (omega (arith, length-drop n list)))
 
 -- so the first n name all
-pub first-all : (list : List ℕ) (n : ℕ) {r : Bool} {s s' : List ℕ} → Ended n list → Added (λ d. occurs (suc d) (take (n - 0) (drop 0 list))) r s s' → Added (λ d. occurs (suc d) list) r s s'
-first-all list n h a = added_as (λ d.
-    let z : n - 0 ≡ n = omega arith in
-    let e : occurs (suc d) (take (n - 0) (drop 0 list)) ≡ occurs (suc d) (take n list) = ap (λ (m : ℕ). occurs (suc d) (take m list)) z in
-    omega (arith, e, occurs-parts (suc d) n list, ended_none list n h d)) a
+pub first-all : (list : List ℕ) (n : ℕ) {r : Bool} {s s' : List ℕ} → Ended n list → Added (λ d. occurs (suc d) (take n list)) r s s' → Added (λ d. occurs (suc d) list) r s s'
+first-all list n h a = added_as (λ d. omega (arith, occurs-parts (suc d) n list, ended_none list n h d)) a
 
--- one part after the other, from the n-th word on
-module _ (list : List ℕ) (n : ℕ) where
-  pub parts_none : (seen : List ℕ) → Added (λ d. occurs (suc d) (take (n - n) (drop n list))) true seen seen
-  parts_none seen = let z : n - n ≡ 0 = omega arith in rw z (added_none seen (λ d. occurs_none (suc d) (drop n list)))
+-- one part more, of the words of a list
+pub part_below : (list done part rest : List ℕ) (m : ℕ) → list ≡ done ++ (part ++ rest) → Below m (length list) list → Below m (length part) part
+part_below list done part rest m e b i l =
+    let at : get_or list (length done + i) 0 ≡ get_or part i 0 = ap (λ (x : List ℕ). get_or x (length done + i) 0) e ∙ get_or-append-add done (part ++ rest) i 0 ∙ get_or-append part rest 0 i l in
+    let long : length list ≡ length done + (length part + length rest) = ap (λ (x : List ℕ). length x) e ∙ length-append done (part ++ rest) ∙ ap (λ (x : ℕ). length done + x) (length-append part rest) in
+    omega (arith, at, b (length done + i) (omega (arith, long)))
 
-  occurs-part : (a i j : ℕ) → n ≤ i → i ≤ j → occurs a (take (i - n) (drop n list)) + occurs a (take (j - i) (drop i list)) ≡ occurs a (take (j - n) (drop n list))
-  occurs-part a i j l m =
-      let e : j - n ≡ (i - n) + (j - i) = omega arith in
-      let f : n + (i - n) ≡ i = omega arith in
-      let d : drop (i - n) (drop n list) ≡ drop i list = drop-drop (i - n) n list ∙ ap (λ (x : ℕ). drop x list) f in
-      let t : take (j - n) (drop n list) ≡ take (i - n) (drop n list) ++ take (j - i) (drop i list) =
-      ap (λ (x : ℕ). take x (drop n list)) e ∙ take-add (i - n) (j - i) (drop n list) ∙ ap (λ (x : List ℕ). take (i - n) (drop n list) ++ take (j - i) x) d in
-      sym (ap (occurs a) t ∙ occurs-append a (take (i - n) (drop n list)) (take (j - i) (drop i list)))
-
-  pub parts_more : {i j : ℕ} {ok r : Bool} {s s' s'' : List ℕ} → n ≤ i → i ≤ j → Added (λ d. occurs (suc d) (take (i - n) (drop n list))) ok s s' →
-      Added (λ d. occurs (suc d) (take (j - i) (drop i list))) r s' s'' → Added (λ d. occurs (suc d) (take (j - n) (drop n list))) (ok && r) s s''
-  parts_more {i} {j} l m a b = added_as (λ e. occurs-part (suc e) i j l m) (added_both a b)
-
-  pub parts_all : (i : ℕ) {ok : Bool} {s s' : List ℕ} → length list ≤ i → Added (λ d. occurs (suc d) (take (i - n) (drop n list))) ok s s' → Added (λ d. occurs (suc d) (drop n list)) ok s s'
-  parts_all i l a = added_as (λ e. ap (occurs (suc e)) (take_all (i - n) (drop n list) (omega (arith, length-drop n list)))) a
-
--- a word of 0 names no entry, and another the one below
-pub up_none : (a : ℕ) (seen : List ℕ) → a ≡ 0 → Added (λ d. bool_byte (eqb a (suc d))) true seen seen
-up_none a seen z = added_none seen (λ e. rw (ne_eqb a (suc e) (λ q. omega arith)))
-
-pub up_one : {a : ℕ} {r : Bool} {s s' : List ℕ} → (a ≡ 0 → ⊥) → Added (λ d. bool_byte (eqb (a - 1) d)) r s s' → Added (λ d. bool_byte (eqb a (suc d))) r s s'
-up_one {a} n b = added_as (λ e. ap bool_byte (same e)) b
-  where
-    same : (e : ℕ) → eqb (a - 1) e ≡ eqb a (suc e)
-    same e = same_bool (eqb (a - 1) e) (eqb a (suc e))
-        (λ t. eq-eqb a (suc e) (omega (arith, eqb-true (a - 1) e t, n)))
-        (λ t. eq-eqb (a - 1) e (omega (arith, eqb-true a (suc e) t)))
+pub part_more : (done part : List ℕ) {ok r : Bool} {s s' s'' : List ℕ} → Added (λ d. occurs (suc d) done) ok s s' → Added (λ d. occurs (suc d) part) r s' s'' → Added (λ d. occurs (suc d) (done ++ part)) (ok && r) s s''
+part_more done part a b = added_as (λ d. sym (occurs-append (suc d) done part)) (added_both a b)
 
 -- ---- four words, one by one
-pub cells : (l : List ℕ) → length l ≡ BIT-WORDS → get_or l 0 0 ∷ (get_or l 1 0 ∷ (get_or l 2 0 ∷ (get_or l 3 0 ∷ []))) ≡ l
-cells [] e = absurd (omega arith)
-cells (a ∷ []) e = absurd (omega arith)
-cells (a ∷ (b ∷ [])) e = absurd (omega arith)
-cells (a ∷ (b ∷ (c ∷ []))) e = absurd (omega arith)
-cells (a ∷ (b ∷ (c ∷ (d ∷ [])))) e = refl
-cells (a ∷ (b ∷ (c ∷ (d ∷ (x ∷ l))))) e = absurd (omega arith)
 
 -- ---- one bit more at the end of a word
 module _ (word i x : ℕ) (b : word < 2 ^ i) (f : x ≤ 1) where

@@ -1,16 +1,14 @@
 -- The row of how slots stand: filled slot by slot, and what a word that is looked up there says of its slot.
 use Prim.Native.Nat.{ℕ, zero, suc, ◌+◌, ◌-◌, ◌*◌, ◌≤◌, ◌<◌}
 use native.Mathlib.Decide.{dec_lt}
-use native.Mathlib.Numerals.{add-one}
 use native.Mathlib.Omega.{arith}
 use mathlib.Core.Path.{◌≡◌, sym, ap, ◌∙◌}
-use mathlib.Core.Bool.{true, false, not, ◌&&◌}
+use mathlib.Core.Bool.{true, not, ◌&&◌}
 use mathlib.Core.List.{List}
 use mir.Val.{bool_byte}
-use lib.ListN.{length, get_or, set, replicate, length-replicate, get_or-replicate, get_or-eq_default}
-use lib.Seq.{get_or-set_same, get_or-set_other}
+use lib.ListN.{length, get_or, replicate, length-replicate, get_or-replicate, get_or-eq_default}
 use lib.Dec.{eqb, leb}
-use borrow.Author.Tests.{eqb-true, eqb-false, ne_eqb, le-leb, leb-true}
+use borrow.Author.Tests.{eqb-true, ne_eqb, le-leb, leb-true}
 use Rattle.pools.proofs.BoolLaws.{split, and_left, flag≤, true_false}
 use Rattle.rules.specs.Terms.{WAITS, alive}
 use Rattle.sound.specs.Standing.{Clear, Spans, Standing, standing_of, lives_in, waits_in_of}
@@ -30,32 +28,9 @@ pub record Stood (states : List ℕ) (i : ℕ) (row : List ℕ) : Type 0 where
   pub done : (a : ℕ) → a < i → get_or row (suc a) 0 ≡ standing_of (get_or states a 0)
   pub rest : (a : ℕ) → i ≤ a → get_or row (suc a) 0 ≡ 0
 
--- none is in it
-pub stood_none : (states : List ℕ) {row : List ℕ} → Clear row → Stood states 0 row
-stood_none states z = record { none = z 0; done = λ a l. absurd (omega arith); rest = λ a l. z (suc a) }
-
--- and one more
-pub stood-more : {states : List ℕ} (i : ℕ) {row : List ℕ} → i + 1 < length row → Stood states i row → Stood states (i + 1) (set row (i + 1) (standing_of (get_or states i 0)))
-stood-more {states} i {row} l h = let v = standing_of (get_or states i 0) in record {
-  none = get_or-set_other row (i + 1) 0 v 0 (λ e. omega arith) ∙ h.none;
-  done = λ a m. split (eqb a i)
-      (λ t. let e : a ≡ i = eqb-true a i t in
-      rw (e, ← add-one i) (get_or-set_same row (i + 1) v 0 l))
-      (λ t. let n : (a ≡ i → ⊥) = eqb-false a i t in
-      get_or-set_other row (i + 1) (suc a) v 0 (λ e. n (omega arith)) ∙ h.done a (elim (dec_lt a i) [ yes q ↦ q | no q ↦ absurd (n (omega arith)) ]));
-  rest = λ a m. get_or-set_other row (i + 1) (suc a) v 0 (λ e. omega arith) ∙ h.rest a (omega arith);
-}
-
 -- a slot past the last is free
 past : (states : List ℕ) (a : ℕ) → length states ≤ a → get_or states a 0 ≡ 0
 past states a l = get_or-eq_default states 0 l
-
--- all of them
-pub stood-all : {states row : List ℕ} → Stood states (length states) row → Standing states row
-stood-all {states} {row} h = record {
-  none = h.none;
-  slots = λ a. elim (dec_lt a (length states)) [ yes m ↦ h.done a m | no n ↦ h.rest a (omega arith) ∙ sym (ap standing_of (past states a (omega arith))) ];
-}
 
 -- ---- a standing says whether its state is free, and whether it waits
 stands_none : (s : ℕ) → eqb (standing_of s) 0 ≡ eqb s 0
@@ -103,13 +78,4 @@ module _ {states row : List ℕ} (h : Standing states row) where
     live = λ word t. (leb-true 1 word (and_left (leb 1 word) (alive states (word - 1)) (sym (lives_in_lem word) ∙ t)), omega (arith, live_among word t));
   }
 
--- more places span it too
-pub spans_more : {n m : ℕ} {row : List ℕ} → n ≤ m → Spans n row → Spans m row
-spans_more l w = record { none = omega (arith, w.none); live = λ word t. let (up, below) = w.live word t in (up, omega (arith, below)) }
-
 -- ---- a place past the row is free
-pub past-lives : (row : List ℕ) (word : ℕ) → length row ≤ word → false ≡ lives_in row word
-past-lives row word l = rw (past row word l)
-
-pub past-waits : (row : List ℕ) (word : ℕ) → length row ≤ word → false ≡ waits_in_of row word
-past-waits row word l = rw (past row word l)

@@ -7,7 +7,7 @@ use mathlib.Core.List.{List}
 use lib.ListN.{length, get_or}
 use lib.Bits.{bit_or}
 use lib.Dec.{eqb, leb}
-use borrow.Author.Tests.{eqb-true, eqb-false, eq-eqb, ne_eqb, le-leb}
+use borrow.Author.Tests.{eqb-true, eqb-false, ne_eqb, le-leb}
 use Rattle.pools.proofs.BoolLaws.{split, true_false, and_left, and_right}
 use Rattle.rules.specs.Rule.{test, each, both, imp, is, le, eq}
 use Rattle.rules.specs.Sound.{interval_rule, link_rule, pair_rule, monitor_rule, timer_rule}
@@ -18,7 +18,7 @@ use Rattle.sound.specs.Standing.{Clear, Spans, Standing, lives_in}
 use Rattle.sound.specs.Ties.{ends_in, link_in, links_in, pair_in, monitor_in, timer_in, LinkSeen}
 use Rattle.sound.proofs.ListLaws.{same_rule}
 use Rattle.sound.proofs.PairLaws.{marked-first, marked_none, rule_none, marked_more, rule_more}
-use Rattle.sound.proofs.JoinLaws.{or-test, pick_no, pick_yes}
+use Rattle.sound.proofs.JoinLaws.{or-test, pick_no}
 use Rattle.sound.proofs.StandingLaws.{lives_in_lem}
 use Rattle.tables.specs.Columns.{DUE, INTERVAL, LINK-ONE, LINK-TWO, MONITOR-AGE, STATE, TIMER-AGE, TIMER-OWNER, WATCHED, WATCHER}
 use Rattle.tables.specs.Limits.{DUE-END, OLDEST}
@@ -26,10 +26,6 @@ use Rattle.tables.specs.State.{State, at}
 
 -- ---- a link
 module _ (row : List ℕ) (one two : ℕ) where
-  -- one that is not in use
-  pub link_none : one ≡ 0 → eqb two 0 ≡ test (link_in row one two)
-  link_none z = pick_yes (test (ends_in row one two)) (eq-eqb one 0 z) refl
-
   -- one that is
   link_used : (one ≡ 0 → ⊥) → test (ends_in row one two) ≡ test (link_in row one two)
   link_used n = pick_no (eqb two 0) (ne_eqb one 0 n) refl
@@ -98,20 +94,6 @@ turned_more {side} {row} {ones} {twos} i {ok} {r} {seen} {seen'} w h q = record 
 
     told : ok && r ≡ ok && (l && p)
     told = split ok (λ t. rw t (link_more w ones twos i (h.marks t) q).0) (λ t. rw t)
-
--- ---- a monitor
-module _ (row : List ℕ) (watcher watched age : ℕ) where
-  pub monitor_none : watcher ≡ 0 → eqb watched 0 && leb age OLDEST ≡ test (monitor_in row watcher watched age)
-  monitor_none z =
-      same_rule (monitor_in row watcher watched age) (both (eq watched 0) (le age OLDEST))
-      (λ ((age, _), (unused, _)). (unused z, age))
-      (λ h. ((h.1, λ n. absurd (n z)), (λ q. h.0, λ n. absurd (n z))))
-
-  pub monitor_used : (watcher ≡ 0 → ⊥) → test (both (ends_in row watcher watched) (both (le 1 age) (le age OLDEST))) ≡ test (monitor_in row watcher watched age)
-  monitor_used n =
-      same_rule (monitor_in row watcher watched age) (both (ends_in row watcher watched) (both (le 1 age) (le age OLDEST)))
-      (λ ((age, born), (_, ends)). (ends n, (born n, age)))
-      (λ (ends, (born, age)). ((age, λ q. born), (λ z. absurd (n z), λ q. ends)))
 
 -- ---- a timer
 module _ (row : List ℕ) (owner age due interval : ℕ) where

@@ -1,6 +1,5 @@
 -- Values: the row that has them, the masks of empty seats, who may read, how many a bus has, and all of it as the rules have it.
-use Prim.Native.Nat.{ℕ, suc, ◌+◌, ◌-◌, ◌*◌, ◌/◌, ◌%◌, ◌^◌, ◌≤◌, ◌<◌}
-use native.Mathlib.Decide.{dec_lt}
+use Prim.Native.Nat.{ℕ, suc, ◌+◌, ◌-◌, ◌/◌, ◌%◌, ◌^◌, ◌≤◌, ◌<◌}
 use native.Mathlib.Omega.{arith}
 use mathlib.Core.Path.{◌≡◌, refl, sym, ap, ◌∙◌}
 use mathlib.Core.Bool.{Bool, true, false, not, ◌&&◌}
@@ -8,14 +7,13 @@ use mathlib.Core.List.{List}
 use mir.Val.{bool_byte}
 use lib.Bits.{bit_and, bit_or}
 use lib.Dec.{eqb, leb, ltb}
-use lib.ListN.{length, get_or, set, replicate, take, drop, length-set, length-take, length-replicate, get_or-replicate}
+use lib.ListN.{length, get_or, replicate, take, length-take, length-replicate, get_or-replicate}
 use lib.Pow.{shr_lt}
-use lib.Seq.{get_or-set_same, get_or-set_other, get_or-take, get_or-drop, take_all}
 use borrow.Author.Tests.{eqb-true, eqb-false, eq-eqb, ltb-false, ltb-true, ne_eqb, not-true}
 use Rattle.pools.specs.Bits.{WORD-BITS, bit, free}
 use Rattle.pools.specs.Pool.{occurs}
 use Rattle.pools.proofs.BitLaws.{bit_none}
-use Rattle.pools.proofs.BoolLaws.{split, true_false, and_left, and_right, and_true, flag≤}
+use Rattle.pools.proofs.BoolLaws.{split, and_left, and_right, and_true, flag≤}
 use Rattle.pools.proofs.ListLaws.{occurs-length, occurs-place}
 use Rattle.tables.specs.declared.Caps.{Caps}
 use Rattle.tables.specs.Columns.{BUS-SIZE, BUSES, CLOCK, ISSUE, ISSUED, PUBLISHED, READERS, SEAT, VALUE-BUS}
@@ -25,10 +23,10 @@ use Rattle.tables.specs.State.{State, at, head}
 use Rattle.rules.specs.Buses.{in_seat}
 use Rattle.rules.specs.Rule.{Rule, test, each, both, imp, is, le, eq, Holds}
 use Rattle.rules.specs.Sound.{crowd_rule, issued_rule, issue_rule}
-use Rattle.rules.proofs.Kept.Rules.{reads, same_test, broken, all_same}
+use Rattle.rules.proofs.Kept.Rules.{reads, same_test, all_same}
 use Rattle.sound.specs.Kinds.{issued_rules, value_rules}
 use Rattle.sound.specs.Marks.{Added, Below}
-use Rattle.sound.specs.Values.{Counts, Empties, Empty, issue_in, mask_in, named_rule, value_in}
+use Rattle.sound.specs.Values.{Counts, Empties, issue_in, mask_in, named_rule, value_in}
 use Rattle.sound.proofs.JoinLaws.{or-test}
 use Rattle.sound.proofs.ListLaws.{same_rule}
 use Rattle.sound.proofs.MarkLaws.{occurs-more, zero_names}
@@ -90,25 +88,7 @@ module _ (masks : List ℕ) (made clock : ℕ) (named : Bool) (bus readers publi
       (λ h. let (here, ((_, when), who)) = h.1 n in (here, (when, who)))
       (λ (here, (when, who)). (λ z. absurd (n z), λ m. (here, ((l, when), who))))
 
-  -- its bus is not made
-  pub value_far : made < bus → false ≡ test (value_in masks made clock named bus readers published)
-  value_far l = sym (broken (value_in masks made clock named bus readers published) (λ h. let (_, ((within, _), _)) = h.1 (λ z. omega arith) in omega arith))
-
 -- ---- the masks, bus by bus
--- of no bus yet
-pub empties_none : (seats masks : List ℕ) → length masks ≡ MOST-BUSES → Empties seats 0 masks
-empties_none seats masks e = record { long = e; bits = λ b l. absurd (omega arith) }
-
--- and one more
-pub empties-more : (seats : List ℕ) (n mask : ℕ) {masks : List ℕ} → n < MOST-BUSES → Empties seats n masks → Empty (take MOST-SEATS (drop (MOST-SEATS * n) seats)) MOST-SEATS mask → Empties seats (n + 1) (set masks n mask)
-empties-more seats n mask {masks} l h m = record {
-  long = length-set masks n mask ∙ h.long;
-  bits = λ b q i j. split (eqb b n)
-      (λ t. let e : b ≡ n = eqb-true b n t in
-      rw (e, get_or-set_same masks n mask 0 (omega (arith, h.long))) (m i j ∙ ap (λ (x : ℕ). bool_byte (eqb x 0)) (get_or-take MOST-SEATS (drop (MOST-SEATS * n) seats) i 0 j ∙ get_or-drop (MOST-SEATS * n) seats i 0)))
-      (λ t. let d : b ≡ n → ⊥ = eqb-false b n t in
-      rw (get_or-set_other masks n b mask 0 d) (h.bits b (elim (dec_lt b n) [ yes p ↦ p | no p ↦ absurd (d (omega arith)) ]) i j));
-}
 
 -- ---- as the rules have them
 -- two tests with the same flag are the same
@@ -167,27 +147,10 @@ counts_none list e = rw e (record { long = length-replicate {A = ℕ} MOST-BUSES
 counts_as : {c d : ℕ → ℕ} {counts : List ℕ} → ((b : ℕ) → b < MOST-BUSES → c b ≡ d b) → Counts c counts → Counts d counts
 counts_as e h = record { long = h.long; of = λ b l. h.of b l ∙ e b l }
 
--- a word that names no bus
-pub count_none : (counts : List ℕ) (bus : ℕ) → length counts ≡ MOST-BUSES → ((b : ℕ) → b < MOST-BUSES → bus ≡ suc b → ⊥) → Counts (λ b. get_or counts b 0 + bool_byte (eqb bus (suc b))) counts
-count_none counts bus l n = record { long = l; of = λ b m. rw (ne_eqb bus (suc b) (n b m)) (omega arith) }
-
--- one that does
-pub count-one : (counts : List ℕ) (bus i : ℕ) → length counts ≡ MOST-BUSES → bus ≡ suc i → i < MOST-BUSES → Counts (λ b. get_or counts b 0 + bool_byte (eqb bus (suc b))) (set counts i (get_or counts i 0 + 1))
-count-one counts bus i l e m = let v = get_or counts i 0 + 1 in record {
-  long = length-set counts i v ∙ l;
-  of = λ b q. split (eqb b i)
-      (λ t. let y : b ≡ i = eqb-true b i t in rw (y, get_or-set_same counts i v 0 (omega (arith, l)), eq-eqb bus (suc i) e))
-      (λ t. let d : b ≡ i → ⊥ = eqb-false b i t in rw (get_or-set_other counts i b v 0 d, ne_eqb bus (suc b) (λ y. d (omega arith))) (omega arith));
-}
-
 -- one word more
 pub counts_more : (list : List ℕ) (i : ℕ) {counts counts' : List ℕ} → i < length list → Counts (λ b. occurs (suc b) (take i list)) counts →
     Counts (λ b. get_or counts b 0 + bool_byte (eqb (get_or list i 0) (suc b))) counts' → Counts (λ b. occurs (suc b) (take (i + 1) list)) counts'
 counts_more list i l h m = counts_as (λ b q. omega (arith, h.of b q, occurs-more list i (suc b) l)) m
-
--- all of them
-pub counts_all : (list : List ℕ) (i : ℕ) {counts : List ℕ} → length list ≤ i → Counts (λ b. occurs (suc b) (take i list)) counts → Counts (λ b. occurs (suc b) list) counts
-counts_all list i l h = counts_as (λ b q. ap (occurs (suc b)) (take_all i list l)) h
 
 -- no bus has more than there are words
 pub counts_few : (list : List ℕ) (i n : ℕ) {counts : List ℕ} → length list ≤ n → Counts (λ b. occurs (suc b) (take i list)) counts → Below (suc n) MOST-BUSES counts
@@ -225,10 +188,6 @@ module _ (k : Caps) (s : State) where
         (λ d l. (λ y. (readers d l (omega arith), published d l (omega arith)), λ n. absurd (n (buses d l (omega arith)))), λ i l. (λ m. absurd (omega arith), λ m. row i l (omega arith))),
         (λ d l. zero_names (s ISSUE) (λ i m. row i (omega (arith, r)) (omega arith)) d ∙ rw (eq-eqb (at s VALUE-BUS d) 0 (buses d l (omega arith))), λ b l. omega (arith, zero_names (s VALUE-BUS) (λ i m. buses i (omega (arith, v)) (omega arith)) b)),
       ))
-
-  -- where the row is none
-  pub unlisted : test (each k.datas (λ i. issue_rule k s i)) ≡ false → false ≡ test (both (value_rules k s) (issued_rules k s))
-  unlisted f = sym (broken (both (value_rules k s) (issued_rules k s)) (λ ((_, issues), _). true_false _ ((reads (each k.datas (λ i. issue_rule k s i))).1 issues) f))
 
   -- where it is one
   module _ (row : Holds (each k.datas (λ i. issue_rule k s i))) (long : length (s ISSUE) ≡ k.datas) {told : Bool} {seen : List ℕ} (a : Added (λ d. occurs (suc d) (s ISSUE)) told (replicate BIT-WORDS 0) seen) where

@@ -1,10 +1,10 @@
 -- The bits of a word past a place, two words that have no bit in common, and a column of words tested word by word.
 use Prim.Native.Nat.{ℕ, zero, suc, ◌+◌, ◌-◌, ◌*◌, ◌/◌, ◌%◌, ◌^◌, ◌≤◌, ◌<◌}
-use native.Mathlib.Nat.{pow-suc, div-one, add-zero, add-suc, div-le_self}
+use native.Mathlib.Nat.{pow-suc, div-one, div-le_self}
 use native.Mathlib.Decide.{dec_lt}
 use native.Mathlib.Omega.{arith}
-use mathlib.Core.Path.{◌≡◌, refl, sym, ap, ◌∙◌}
-use mathlib.Core.Bool.{Bool, true, false, not, ◌&&◌}
+use mathlib.Core.Path.{◌≡◌, sym, ap, subst, ◌∙◌}
+use mathlib.Core.Bool.{true, not}
 use mathlib.Core.List.{List}
 use lib.ListN.{get_or}
 use lib.Bits.{bit_and, and_shr, and_mod, and_le_l, and_zero_l, and_zero_r, and_self}
@@ -13,8 +13,9 @@ use lib.Pow.{shr-shr}
 use borrow.Author.Tests.{eqb-true, eqb-false, eq-eqb, not-true}
 use Rattle.pools.specs.Bits.{bit, free}
 use Rattle.pools.proofs.BitLaws.{bit-zero, bit_suc, bit_none, bit_cases}
-use Rattle.rules.specs.Rule.{all, test}
-use Rattle.rules.proofs.Kept.Rules.{all_none, same_test, reads}
+use Rattle.rules.specs.Rule.{Rule, Holds, each, test}
+use Rattle.rules.proofs.Kept.Rules.{same_test, reads}
+use Rattle.sound.proofs.ListLaws.{same_rule}
 use Rattle.sound.specs.Kinds.{word_rule}
 
 -- ---- a number with no bit is 0
@@ -89,24 +90,9 @@ module _ (n : ℕ) (bits : List ℕ) (j : ℕ) where
   pub whole_word : 64 * j + 64 ≤ n → true ≡ test (word_rule n bits j)
   whole_word h = sym ((reads (word_rule n bits j)).1 (λ i m l. absurd (omega arith)))
 
--- ---- tests of each number, in parts
-all_split : (f : ℕ → Bool) (a b : ℕ) → all f (a + b) ≡ all f a && all (λ i. f (a + i)) b
-unfolding all
-all_split f a zero = rw (add-zero a) (and_yes (all f a))
-  where
-    and_yes : (x : Bool) → x ≡ x && true
-    and_yes true = refl
-    and_yes false = refl
-all_split f a (suc b) = rw (add-suc a b, all_split f a b) (and_assoc (all f a) (all (λ i. f (a + i)) b) (f (a + b)))
-  where
-    and_assoc : (x y z : Bool) → (x && y) && z ≡ x && (y && z)
-    and_assoc true y z = refl
-    and_assoc false y z = refl
-
-pub four-words : (f : ℕ → Bool) → all f 256 ≡ ((all (λ i. f (0 + i)) 64 && all (λ i. f (64 + i)) 64) && all (λ i. f (128 + i)) 64) && all (λ i. f (192 + i)) 64
-four-words f =
-    let first : all f 64 ≡ all (λ i. f (0 + i)) 64 = all_split f 0 64 ∙ ap (λ (b : Bool). b && all (λ i. f (0 + i)) 64) (all_none f) in
-    all_split f 192 64
-    ∙ ap (λ (b : Bool). b && all (λ i. f (192 + i)) 64) (all_split f 128 64
-    ∙ ap (λ (b : Bool). b && all (λ i. f (128 + i)) 64) (all_split f 64 64
-    ∙ ap (λ (b : Bool). b && all (λ i. f (64 + i)) 64) first))
+-- ---- words after words
+pub by_words : (f : ℕ → Rule) (n : ℕ) → test (each n (λ j. each 64 (λ i. f (64 * j + i)))) ≡ test (each (64 * n) f)
+by_words f n =
+    same_rule (each (64 * n) f) (each n (λ j. each 64 (λ i. f (64 * j + i))))
+    (λ h j l i m. h (64 * j + i) (omega arith))
+    (λ h e l. let q : 64 * (e / 64) + e % 64 ≡ e = omega arith in subst (λ (x : ℕ). Holds (f x)) q (h (e / 64) (omega arith) (e % 64) (omega arith)))

@@ -1,7 +1,7 @@
 -- Parts of the rules, as the functions test them.
-use Rattle.std.specs.Prelude.{ℕ, suc, ◌+◌, ◌-◌, ◌*◌, not, List, eqb}
+use Rattle.std.specs.Prelude.{ℕ, suc, ◌+◌, ◌-◌, ◌*◌, min, not, List, eqb}
 use mir.Val.{bool_byte}
-use Rattle.pools.specs.Bits.{free}
+use Rattle.pools.specs.Bits.{WORD-BITS, free}
 use Rattle.records.specs.Header.{class_of}
 use Rattle.tables.specs.declared.Caps.{Caps}
 use Rattle.tables.specs.Columns.{AGE, DATA-FREE, DEADLINE, HAND, MAIL-FREE, PRIORITY, REASON, STATE, WANT-CLASS, WANT-SENDER, WANT-TAG}
@@ -50,6 +50,10 @@ keep_rule k s owner entry =
 -- of any, with its owner's filter
 abbrev pub kept_rule : Caps → State → ℕ → Rule
 kept_rule k s e = both (mail_rule k s e) (filter_rule s e)
+
+-- of those that have their free bits in word j
+abbrev pub mails_rule : Caps → State → ℕ → Rule
+mails_rule k s j = each (min k.mails (WORD-BITS * j + WORD-BITS)) (λ e. imp (le (WORD-BITS * j) e) (kept_rule k s e))
 
 -- ---- the rules of a data entry
 -- data entry d of the payload area holds a message, of a sender and a length that stand in its words

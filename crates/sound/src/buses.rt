@@ -3,10 +3,10 @@ ghost use Rattle.std.specs.Prelude.{◌≡◌, suc, ◌≤◌, length, get_or};
 ghost use Rattle.rules.specs.Rule.{test, each, Holds};
 ghost use Rattle.rules.specs.Sound.{bus_rule, head_rule, row_rule};
 ghost use Rattle.rules.specs.Host.{Tests};
-ghost use Rattle.sound.specs.Buses.{settings_in, bus_in, sitter_in, new_in, row_in, rows_in, Before, Seats, Told};
+ghost use Rattle.sound.specs.Buses.{settings_in, sitter_in, new_in, row_in, rows_in, Before, Seats, Told};
 ghost use Rattle.sound.specs.Kinds.{bus_rules};
 ghost use Rattle.sound.specs.Marks.{Below};
-ghost use Rattle.sound.specs.Standing.{FEW-PLACES, PLACES, Clear, Spans, Standing};
+ghost use Rattle.sound.specs.Standing.{PLACES, Clear, Spans, Standing};
 ghost use Rattle.tables.specs.Columns.{STATE};
 ghost use Rattle.tables.specs.Limits.{MOST-ACTORS, MOST-BUSES, MOST-SEATS};
 ghost use Rattle.tables.specs.State.{RoomWith};
@@ -29,33 +29,7 @@ fn settings_ok(size: u64, seats: u64, reads: u64, age: u64) -> bool
         & ((reads <= (MOST_READS as u64)) & (age <= LONGEST_AGE))
 }
 
-// Those of the first n.
-fn settings_in(sizes: &[u64], seats: &[u64], reads: &[u64], ages: &[u64], n: usize) -> bool
-    requires { (n ≤ length sizes.now) × (n ≤ length seats.now) × (n ≤ length reads.now) × (n ≤ length ages.now) }
-    ensures { result ≡ test (each n (λ b. settings_in (get_or sizes.now b 0) (get_or seats.now b 0) (get_or reads.now b 0) (get_or ages.now b 0))) }
-{
-    let mut ok = true;
-    let mut b = 0;
-    while b < n {
-        ok = ok & settings_ok(sizes[b], seats[b], reads[b], ages[b]);
-        b += 1;
-    }
-    ok
-}
-
-// Those of all buses, of which n are made: the words of the others are 0.
-fn made_in(sizes: &[u64], seats: &[u64], reads: &[u64], ages: &[u64], n: usize) -> bool
-    requires { (n ≤ MOST-BUSES) × (MOST-BUSES ≤ length sizes.now) × (MOST-BUSES ≤ length seats.now) × (MOST-BUSES ≤ length reads.now) × (MOST-BUSES ≤ length ages.now) }
-    ensures { result ≡ test (each MOST-BUSES (λ b. bus_in sizes.now seats.now reads.now ages.now n b)) }
-{
-    let made = settings_in(sizes, seats, reads, ages, n);
-    let no_size = zero_from(sizes, n, MOST_BUSES);
-    let no_seats = zero_from(seats, n, MOST_BUSES);
-    let no_reads = zero_from(reads, n, MOST_BUSES);
-    let no_age = zero_from(ages, n, MOST_BUSES);
-    made & ((no_size & no_seats) & (no_reads & no_age))
-}
-
+// Those of all buses: the words of the ones that are not made are 0.
 fn made(t: &[u64], p: &[u8], k: Caps) -> bool
     requires { RoomWith k (λ s. Holds (head_rule k s)) t.now p.now }
     ensures { Tests k (λ s. each MOST-BUSES (λ b. bus_rule s b)) t.now p.now result }
@@ -65,7 +39,12 @@ fn made(t: &[u64], p: &[u8], k: Caps) -> bool
     let seats = column(t, p, k, BUS_SEATS);
     let reads = column(t, p, k, BUS_READS);
     let ages = column(t, p, k, BUS_AGE);
-    made_in(sizes, seats, reads, ages, n)
+    let made = (0..n).all(|b| settings_ok(sizes[b], seats[b], reads[b], ages[b]));
+    let no_size = zero_from(sizes, n, MOST_BUSES);
+    let no_seats = zero_from(seats, n, MOST_BUSES);
+    let no_reads = zero_from(reads, n, MOST_BUSES);
+    let no_age = zero_from(ages, n, MOST_BUSES);
+    made & ((no_size & no_seats) & (no_reads & no_age))
 }
 
 // ---- who sits on a bus
@@ -74,14 +53,7 @@ fn sitters_ok(row: &[u8], seats: &[u64], limit: u64) -> bool
     requires { MOST-SEATS ≤ length seats.now }
     ensures { result ≡ test (each MOST-SEATS (λ n. sitter_in row.now limit (get_or seats.now n 0) n)) }
 {
-    let mut ok = true;
-    let mut n = 0;
-    while n < MOST_SEATS {
-        let word = seats[n];
-        ok = ok & (!!(word == 0) | (((n as u64) < limit) & lives(row, word)));
-        n += 1;
-    }
-    ok
+    (0..MOST_SEATS).all(|n| (seats[n] == 0) | (((n as u64) < limit) & lives(row, seats[n])))
 }
 
 // Is none of them twice there? Each gets the stamp of this bus, which nobody has before.
@@ -90,13 +62,10 @@ fn none_twice(seats: &[u64], stamps: &mut [u8], stamp: u8) -> bool
     ensures { Told (each MOST-SEATS (λ n. new_in seats.now n)) stamp result stamps.new }
 {
     let mut ok = true;
-    let mut n = 0;
-    while n < MOST_SEATS {
-        let word = seats[n];
-        let place = word as usize;
-        ok = ok & (!!(word == 0) | !(stamps[place] == stamp));
+    for n in 0..MOST_SEATS {
+        let place = seats[n] as usize;
+        ok &= (place == 0) | (stamps[place] != stamp);
         stamps[place] = stamp;
-        n += 1;
     }
     ok
 }
@@ -115,52 +84,53 @@ fn row_ok(row: &[u8], stamps: &mut [u8], stamp: u8, seats: &[u64], limit: u64) -
     false
 }
 
-// The first n buses.
-fn rows_in(row: &[u8], stamps: &mut [u8], seats: &[u64], limits: &[u64], n: usize) -> bool
-    requires { Spans (length stamps.old) row.now × Clear stamps.old × Seats seats.now limits.now n }
-    ensures { result ≡ test (rows_in row.now seats.now limits.now n) }
-{
-    let mut ok = true;
-    let mut b = 0;
-    while b < n {
-        let from = MOST_SEATS * b;
-        let end = from + MOST_SEATS;
-        let stamp = (b + 1) as u8;
-        ok = ok & row_ok(row, stamps, stamp, &seats[from..end], limits[b]);
-        b += 1;
-    }
-    ok
+// The seats of the first n buses and how many each may have, and the row that says how the slots stand.
+#[derive(Clone, Copy)]
+struct Seating<'a> {
+    row: &'a [u8],
+    seats: &'a [u64],
+    limits: &'a [u64],
+    n: usize,
+    ghost long: { Seats seats.now limits.now n },
 }
 
-// The same, by stamps that are made here: for a box of few actors, and for any.
-fn rows_few(row: &[u8], seats: &[u64], limits: &[u64], n: usize) -> bool
-    requires { Spans FEW-PLACES row.now × Seats seats.now limits.now n }
-    ensures { result ≡ test (rows_in row.now seats.now limits.now n) }
-{
-    let mut stamps = [0u8; FEW_PLACES];
-    rows_in(row, &mut stamps, seats, limits, n)
-}
-
-fn rows_many(row: &[u8], seats: &[u64], limits: &[u64], n: usize) -> bool
-    requires { Spans PLACES row.now × Seats seats.now limits.now n }
-    ensures { result ≡ test (rows_in row.now seats.now limits.now n) }
-{
-    let mut stamps = [0u8; PLACES];
-    rows_in(row, &mut stamps, seats, limits, n)
-}
-
-// The same, by as many stamps as the box asks for: none where no bus is made.
-fn rows_of(row: &[u8], seats: &[u64], limits: &[u64], n: usize, actors: usize) -> bool
-    requires { Spans (suc actors) row.now × (actors ≤ MOST-ACTORS) × Seats seats.now limits.now n }
-    ensures { result ≡ test (rows_in row.now seats.now limits.now n) }
-{
-    if n == 0 {
-        return true;
+impl Seating<'_> {
+    // All of them, by stamps that are clear.
+    fn stamped_ok(&self, stamps: &mut [u8]) -> bool
+        requires { Spans (length stamps.old) self.now.row.now × Clear stamps.old }
+        ensures { result ≡ test (rows_in self.now.row.now self.now.seats.now self.now.limits.now self.now.n) }
+    {
+        let mut ok = true;
+        for b in 0..self.n {
+            let from = MOST_SEATS * b;
+            let seats = &self.seats[from..from + MOST_SEATS];
+            ok &= row_ok(self.row, stamps, (b + 1) as u8, seats, self.limits[b]);
+        }
+        ok
     }
-    if actors <= FEW_ACTORS {
-        return rows_few(row, seats, limits, n);
+
+    // The same, by stamps for n places that are made here.
+    fn placed_ok<const N: usize>(&self) -> bool
+        requires { Spans N self.now.row.now × (N ≤ PLACES) }
+        ensures { result ≡ test (rows_in self.now.row.now self.now.seats.now self.now.limits.now self.now.n) }
+    {
+        let mut stamps = [0u8; N];
+        self.stamped_ok(&mut stamps)
     }
-    rows_many(row, seats, limits, n)
+
+    // Those of a box of so many actors, by as many stamps as it asks for: none where no bus is made.
+    fn rows_ok(&self, actors: usize) -> bool
+        requires { Spans (suc actors) self.now.row.now × (actors ≤ MOST-ACTORS) }
+        ensures { result ≡ test (rows_in self.now.row.now self.now.seats.now self.now.limits.now self.now.n) }
+    {
+        if self.n == 0 {
+            return true;
+        }
+        if actors <= FEW_ACTORS {
+            return self.placed_ok::<FEW_PLACES>();
+        }
+        self.placed_ok::<PLACES>()
+    }
 }
 
 // All of them: on those that are not made nobody sits.
@@ -171,7 +141,13 @@ fn rows(t: &[u64], p: &[u8], k: Caps, row: &[u8]) -> bool
     let n = get(t, p, k, BUSES, 0) as usize;
     let seats = column(t, p, k, SEAT);
     let limits = column(t, p, k, BUS_SEATS);
-    let seated = rows_of(row, seats, limits, n, k.actors);
+    let made = Seating {
+        row,
+        seats,
+        limits,
+        n,
+    };
+    let seated = made.rows_ok(k.actors);
     let rest = zero_from(seats, MOST_SEATS * n, ALL_SEATS);
     seated & rest
 }
@@ -181,8 +157,5 @@ pub fn buses(t: &[u64], p: &[u8], k: Caps, row: &[u8]) -> bool
     requires { RoomWith k (λ s. Standing (s STATE) row.now × Holds (head_rule k s)) t.now p.now }
     ensures { Tests k (λ s. bus_rules s) t.now p.now result }
 {
-    if made(t, p, k) {
-        return rows(t, p, k, row);
-    }
-    false
+    made(t, p, k) && rows(t, p, k, row)
 }

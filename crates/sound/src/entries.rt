@@ -33,7 +33,7 @@ fn form_ok(datas: u64, state: u64, priority: u64, reason: u64, age: u64, hand: u
         return (((priority | reason) | hand) == 0) & (age <= OLDEST);
     }
     ((state <= WAITS) & ((priority <= LAST_LEVEL) & (reason <= TIMEOUT)))
-        & ((!!(state == RUNNABLE) | (reason == 0))
+        & (((state == RUNNABLE) | (reason == 0))
             & (((1 <= age) & (age <= OLDEST)) & (hand <= datas)))
 }
 
@@ -70,8 +70,8 @@ fn wait_ok(t: &[u64], p: &[u8], k: Caps, a: u64) -> bool
     let deadline = get(t, p, k, DEADLINE, a);
     let clock = get(t, p, k, CLOCK, 0);
     (tag <= ANY_TAG)
-        & (((class <= ANY_CLASS) & (!(4 < class) | (class == ANY_CLASS)))
-            & (!!(deadline == 0) | ((clock < deadline) & (deadline <= DEADLINE_END))))
+        & (((class <= ANY_CLASS) & ((class <= 4) | (class == ANY_CLASS)))
+            & ((deadline == 0) | ((clock < deadline) & (deadline <= DEADLINE_END))))
 }
 
 // What slot a waits for, which is nothing where its state is another.
@@ -91,7 +91,7 @@ fn turn_ok(t: &[u64], p: &[u8], k: Caps, a: u64, state: u64) -> bool
     ensures { Tests k (λ s. turn_rule s state a) t.now p.now result }
 {
     let runner = get(t, p, k, RUNNING, 0);
-    ((state == RUNS) as u64) == ((runner == a + 1) as u64)
+    (state == RUNS) == (runner == a + 1)
 }
 
 pub fn slot_ok(t: &[u64], p: &[u8], k: Caps, a: u64) -> bool

@@ -20,13 +20,7 @@ pub fn spares(t: &[u64], p: &[u8], k: Caps) -> bool
     requires { Room k t.now p.now }
     ensures { Tests k (λ s. each SPARES (λ i. spare_rule s i)) t.now p.now result }
 {
-    let mut ok = true;
-    let mut i: u64 = 0;
-    while i < SPARES as u64 {
-        ok = ok & spare_ok(t, p, k, i);
-        i += 1;
-    }
-    ok
+    (0..SPARES as u64).all(|i| spare_ok(t, p, k, i))
 }
 
 // The words of each slot.
@@ -35,10 +29,8 @@ fn owns(t: &[u64], p: &[u8], k: Caps) -> bool
     ensures { Tests k (λ s. each k.actors (λ i. own_rule k s i)) t.now p.now result }
 {
     let mut ok = true;
-    let mut i: u64 = 0;
-    while i < k.actors as u64 {
-        ok = ok & slot_ok(t, p, k, i);
-        i += 1;
+    for i in 0..k.actors as u64 {
+        ok &= slot_ok(t, p, k, i);
     }
     ok
 }

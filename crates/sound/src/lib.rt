@@ -1,12 +1,12 @@
 // Do two lent buffers hold a sound runtime?
 #![tactic(auto)]
 
-ghost use Rattle.std.specs.Prelude.{◌≡◌, ◌≤◌};
+ghost use Rattle.std.specs.Prelude.{◌≡◌, ◌≤◌, ◌<◌};
 ghost use Rattle.rules.specs.Rule.{both, test, Holds};
 ghost use Rattle.rules.specs.Sound.{range_rule, size_rule, fit_rule, caps_rule, head_rule, plain_rules, across_rules, sound_at, sound_rule};
 ghost use Rattle.rules.specs.Host.{Tests};
 ghost use Rattle.sound.specs.Kinds.{front_rules, bit_rules, box_rules, data_rules, time_rules, bus_rules, value_rules, filter_rules, pair_rules, issued_rules, count_rules, early_rules, body_rules};
-ghost use Rattle.sound.specs.Standing.{FEW-ACTORS, Standing};
+ghost use Rattle.sound.specs.Standing.{PLACES, Standing};
 ghost use Rattle.tables.specs.Columns.{STATE};
 ghost use Rattle.tables.specs.State.{Room, RoomWith};
 
@@ -65,10 +65,7 @@ fn sized(t: &[u64], p: &[u8], k: Caps) -> bool
 pub fn suffices(t: &[u64], p: &[u8], k: Caps) -> bool
     ensures { Tests k (fit_rule k) t.now p.now result }
 {
-    if ranged(k) {
-        return sized(t, p, k);
-    }
-    false
+    ranged(k) && sized(t, p, k)
 }
 
 // ---- the rules that read a word where it stands
@@ -178,40 +175,28 @@ fn plain_ok(t: &[u64], p: &[u8], k: Caps, row: &[u8]) -> bool
     requires { RoomWith k (λ s. Standing (s STATE) row.now) t.now p.now }
     ensures { Tests k (early_rules k) t.now p.now result }
 {
-    if front_ok(t, p, k) {
-        return body_ok(t, p, k, row);
-    }
-    false
+    front_ok(t, p, k) && body_ok(t, p, k, row)
 }
 
-// The same, by a row that is made here: for a box of few actors, and for any.
-fn early_few(t: &[u64], p: &[u8], k: Caps) -> bool
-    requires { Room k t.now p.now × (k.actors ≤ FEW-ACTORS) }
+// The same, by a row of n places that is made here.
+fn early_in<const N: usize>(t: &[u64], p: &[u8], k: Caps) -> bool
+    requires { Room k t.now p.now × (k.actors < N) × (N ≤ PLACES) }
     ensures { Tests k (early_rules k) t.now p.now result }
 {
-    let mut row = [0u8; FEW_PLACES];
+    let mut row = [0u8; N];
     stand(column(t, p, k, STATE), &mut row);
     plain_ok(t, p, k, &row)
 }
 
-fn early_many(t: &[u64], p: &[u8], k: Caps) -> bool
-    requires { Room k t.now p.now }
-    ensures { Tests k (early_rules k) t.now p.now result }
-{
-    let mut row = [0u8; PLACES];
-    stand(column(t, p, k, STATE), &mut row);
-    plain_ok(t, p, k, &row)
-}
-
-// The same, by a row as long as the box asks for.
+// The same, by a row as long as the box asks for: a short one for few actors.
 fn early_ok(t: &[u64], p: &[u8], k: Caps) -> bool
     requires { Room k t.now p.now }
     ensures { Tests k (early_rules k) t.now p.now result }
 {
     if k.actors <= FEW_ACTORS {
-        return early_few(t, p, k);
+        return early_in::<FEW_PLACES>(t, p, k);
     }
-    early_many(t, p, k)
+    early_in::<PLACES>(t, p, k)
 }
 
 // ---- the rules that count over a whole column
@@ -229,19 +214,13 @@ fn rules_ok(t: &[u64], p: &[u8], k: Caps) -> bool
     requires { Room k t.now p.now }
     ensures { Tests k (λ s. both (plain_rules k s) (across_rules k s)) t.now p.now result }
 {
-    if early_ok(t, p, k) {
-        return late_ok(t, p, k);
-    }
-    false
+    early_ok(t, p, k) && late_ok(t, p, k)
 }
 
 fn sound_at(t: &[u64], p: &[u8], k: Caps) -> bool
     ensures { Tests k (sound_at k) t.now p.now result }
 {
-    if suffices(t, p, k) {
-        return rules_ok(t, p, k);
-    }
-    false
+    suffices(t, p, k) && rules_ok(t, p, k)
 }
 
 // Do the buffers hold a sound runtime?

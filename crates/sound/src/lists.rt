@@ -9,10 +9,8 @@ fn below(s: &[u64], m: usize, n: u64) -> bool
     ensures { result ≡ test (each m (λ i. lt (get_or s.now i 0) n)) }
 {
     let mut ok = true;
-    let mut i = 0;
-    while i < m {
-        ok = ok & (s[i] < n);
-        i += 1;
+    for x in &s[..m] {
+        ok &= *x < n;
     }
     ok
 }
@@ -22,13 +20,7 @@ pub fn zero_from(s: &[u64], m: usize, n: usize) -> bool
     requires { (m ≤ n) × (n ≤ length s.now) }
     ensures { result ≡ test (each n (λ i. imp (le m i) (eq (get_or s.now i 0) 0))) }
 {
-    let mut any: u64 = 0;
-    let mut i = m;
-    while i < n {
-        any = any | s[i];
-        i += 1;
-    }
-    any == 0
+    s[m..n].iter().fold(0, |any, x| any | *x) == 0
 }
 
 // A list of n words, of which m count.

@@ -1,12 +1,11 @@
 // The rules of a mailbox entry, and of the message in it where its owner waits.
-ghost use Rattle.std.specs.Prelude.{◌≡◌, ◌+◌, ◌*◌, ◌≤◌, ◌<◌, min};
+ghost use Rattle.std.specs.Prelude.{◌*◌, ◌<◌};
 ghost use Rattle.pools.specs.Bits.{WORD-BITS};
-ghost use Rattle.rules.specs.Rule.{each, imp, le};
+ghost use Rattle.rules.specs.Rule.{each};
 ghost use Rattle.rules.specs.Host.{Tests};
-ghost use Rattle.sound.specs.Kinds.{keep_rule, kept_rule};
+ghost use Rattle.sound.specs.Kinds.{keep_rule, kept_rule, mails_rule};
 ghost use Rattle.sound.specs.Standing.{Standing, Lent};
 ghost use Rattle.tables.specs.Columns.{STATE};
-ghost use Rattle.tables.specs.Sizes.{BIT-WORDS};
 ghost use Rattle.tables.specs.State.{RoomWith};
 
 use crate::lists::zero_from;
@@ -18,131 +17,74 @@ use tables::Caps;
 use tables::columns::{MAIL_DATA, MAIL_FREE, MAIL_OWNER};
 use tables::words::column;
 
-// The words of an entry in use: a live owner's, and a data entry's, which the owner does not await.
-fn keep_ok(t: &[u64], p: &[u8], k: Caps, row: &[u8], owner: u64, entry: u64) -> bool
-    requires { RoomWith k (λ s. Standing (s STATE) row.now) t.now p.now }
-    ensures { Tests k (λ s. keep_rule k s owner entry) t.now p.now result }
-{
-    let lives = lives(row, owner);
-    let fine = lives & ((1 <= entry) & (entry <= (k.datas as u64)));
-    if waits(row, owner) {
-        return fine & !awaited(t, p, k, named(owner), named(entry));
-    }
-    fine
-}
-
-// Mailbox entry e, by the lent columns of free bits, owners and entries.
-fn kept_ok(
-    t: &[u64],
-    p: &[u8],
+// The mailboxes, and what their test is lent: the row that says how the slots stand, and the columns of free bits, owners and entries.
+#[derive(Clone, Copy)]
+struct Mails<'a> {
+    t: &'a [u64],
+    p: &'a [u8],
     k: Caps,
-    row: &[u8],
-    bits: &[u64],
-    owners: &[u64],
-    entries: &[u64],
-    e: usize,
-) -> bool
-    requires { RoomWith k (λ s. Lent s row.now bits.now owners.now entries.now × (e < k.mails)) t.now p.now }
-    ensures { Tests k (λ s. kept_rule k s e) t.now p.now result }
-{
-    let owner = owners[e];
-    let entry = entries[e];
-    if is_free(bits, e) {
-        return (owner | entry) == 0;
-    }
-    keep_ok(t, p, k, row, owner, entry)
+    row: &'a [u8],
+    bits: &'a [u64],
+    owners: &'a [u64],
+    entries: &'a [u64],
+    ghost lent: { RoomWith k (λ s. Lent s row.now bits.now owners.now entries.now) t.now p.now },
 }
 
-// ---- all of them, in runs that have their free bits in one word
-// Those of a run, one by one.
-fn kept_between(
-    t: &[u64],
-    p: &[u8],
-    k: Caps,
-    row: &[u8],
-    bits: &[u64],
-    owners: &[u64],
-    entries: &[u64],
-    from: usize,
-    end: usize,
-) -> bool
-    requires { RoomWith k (λ s. Lent s row.now bits.now owners.now entries.now × (from ≤ end) × (end ≤ k.mails)) t.now p.now }
-    ensures { Tests k (λ s. each end (λ e. imp (le from e) (kept_rule k s e))) t.now p.now result }
-{
-    let mut ok = true;
-    let mut e = from;
-    while e < end {
-        ok = ok & kept_ok(t, p, k, row, bits, owners, entries, e);
-        e += 1;
+impl Mails<'_> {
+    // The words of an entry in use: a live owner's, and a data entry's, which the owner does not await.
+    fn keep_ok(&self, owner: u64, entry: u64) -> bool
+        ensures { Tests self.now.k (λ s. keep_rule self.now.k s owner entry) self.now.t.now self.now.p.now result }
+    {
+        let lives = lives(self.row, owner);
+        let fine = lives & ((1 <= entry) & (entry <= (self.k.datas as u64)));
+        if waits(self.row, owner) {
+            return fine & !awaited(self.t, self.p, self.k, named(owner), named(entry));
+        }
+        fine
     }
-    ok
+
+    // Entry e.
+    fn kept_ok(&self, e: usize) -> bool
+        requires { e < self.now.k.mails }
+        ensures { Tests self.now.k (λ s. kept_rule self.now.k s e) self.now.t.now self.now.p.now result }
+    {
+        let owner = self.owners[e];
+        let entry = self.entries[e];
+        if is_free(self.bits, e) {
+            return (owner | entry) == 0;
+        }
+        self.keep_ok(owner, entry)
+    }
+
+    // The run of entries that have their free bits in word j. Where all of it is free its words are joined.
+    fn run_ok(&self, j: usize) -> bool
+        requires { WORD-BITS * j < self.now.k.mails }
+        ensures { Tests self.now.k (λ s. mails_rule self.now.k s j) self.now.t.now self.now.p.now result }
+    {
+        let from = WORD_BITS * j;
+        let end = self.k.mails.min(from + WORD_BITS);
+        if self.bits[j] == u64::MAX {
+            let owned = zero_from(self.owners, from, end);
+            let held = zero_from(self.entries, from, end);
+            return owned & held;
+        }
+        (from..end).all(|e| self.kept_ok(e))
+    }
 }
 
-fn least(a: usize, b: usize) -> usize
-    ensures { result ≡ min a b }
-{
-    if a <= b {
-        return a;
-    }
-    b
-}
-
-// The run of word j. Where all of it is free its words are joined.
-fn kept_run(
-    t: &[u64],
-    p: &[u8],
-    k: Caps,
-    row: &[u8],
-    bits: &[u64],
-    owners: &[u64],
-    entries: &[u64],
-    j: usize,
-    from: usize,
-    end: usize,
-) -> bool
-    requires { RoomWith k (λ s. Lent s row.now bits.now owners.now entries.now × (j < BIT-WORDS) × (from ≡ min (WORD-BITS * j) k.mails) × (end ≡ min (WORD-BITS * j + WORD-BITS) k.mails)) t.now p.now }
-    ensures { Tests k (λ s. each end (λ e. imp (le from e) (kept_rule k s e))) t.now p.now result }
-{
-    if bits[j] == 0xffff_ffff_ffff_ffff {
-        let owned = zero_from(owners, from, end);
-        let held = zero_from(entries, from, end);
-        return owned & held;
-    }
-    kept_between(t, p, k, row, bits, owners, entries, from, end)
-}
-
-// All runs.
-fn kept_in(
-    t: &[u64],
-    p: &[u8],
-    k: Caps,
-    row: &[u8],
-    bits: &[u64],
-    owners: &[u64],
-    entries: &[u64],
-) -> bool
-    requires { RoomWith k (λ s. Lent s row.now bits.now owners.now entries.now) t.now p.now }
-    ensures { Tests k (λ s. each k.mails (λ e. kept_rule k s e)) t.now p.now result }
-{
-    let mut ok = true;
-    let mut from = 0;
-    let mut j = 0;
-    while from < k.mails {
-        let end = least(WORD_BITS * j + WORD_BITS, k.mails);
-        ok = ok & kept_run(t, p, k, row, bits, owners, entries, j, from, end);
-        from = end;
-        j += 1;
-    }
-    ok
-}
-
-// The mailbox entries, with the filters of their owners.
+// The mailbox entries, with the filters of their owners, run by run.
 pub fn kept(t: &[u64], p: &[u8], k: Caps, row: &[u8]) -> bool
     requires { RoomWith k (λ s. Standing (s STATE) row.now) t.now p.now }
     ensures { Tests k (λ s. each k.mails (λ e. kept_rule k s e)) t.now p.now result }
 {
-    let bits = column(t, p, k, MAIL_FREE);
-    let owners = column(t, p, k, MAIL_OWNER);
-    let entries = column(t, p, k, MAIL_DATA);
-    kept_in(t, p, k, row, bits, owners, entries)
+    let mails = Mails {
+        t,
+        p,
+        k,
+        row,
+        bits: column(t, p, k, MAIL_FREE),
+        owners: column(t, p, k, MAIL_OWNER),
+        entries: column(t, p, k, MAIL_DATA),
+    };
+    (0..k.mails.div_ceil(WORD_BITS)).all(|j| mails.run_ok(j))
 }

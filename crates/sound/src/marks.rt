@@ -1,5 +1,5 @@
 // The rules on how often lists name an entry. In a set of bits the entries that no list may name are marked at first, and then each that a list names: none twice, and in the end all.
-ghost use Rattle.std.specs.Prelude.{◌≡◌, suc, ◌+◌, ◌-◌, ◌^◌, ◌≤◌, ◌<◌, min, eqb, length, take, drop};
+ghost use Rattle.std.specs.Prelude.{◌≡◌, suc, ◌-◌, ◌^◌, ◌≤◌, ◌<◌, min, eqb, length, take, replicate};
 ghost use mir.Val.{bool_byte};
 ghost use Rattle.pools.specs.Bits.{WORD-BITS, free};
 ghost use Rattle.pools.specs.Pool.{occurs};
@@ -11,7 +11,7 @@ ghost use Rattle.tables.specs.Sizes.{BIT-WORDS, COLUMN-BITS};
 ghost use Rattle.tables.specs.State.{Of, RoomWith};
 
 use crate::lists::zero_from;
-use pools::bits::{WORD_BITS, power};
+use pools::bits::{WORD_BITS, is_free, power};
 use rules::states::RUNNABLE;
 use tables::Caps;
 use tables::columns::{
@@ -24,172 +24,205 @@ use tables::words::{column, get};
 const PART: usize = 64;
 
 // ---- marks
-// Entry e is marked. Was it not marked before?
-fn mark(seen: &mut [u64; BIT_WORDS], e: usize) -> bool
-    requires { (e < COLUMN-BITS) × (length seen.old ≡ BIT-WORDS) }
-    ensures { Added (λ d. bool_byte (eqb e d)) result seen.old seen.new }
-{
-    let word = seen[e / WORD_BITS];
-    let bit = power(e % WORD_BITS);
-    seen[e / WORD_BITS] = word | bit;
-    (word & bit) == 0
+// A set of entries of a column: each that is marked has its bit.
+#[derive(Clone, Copy)]
+pub(crate) struct Marks {
+    pub(crate) bits: [u64; BIT_WORDS],
+    pub ghost long: { length bits ≡ BIT-WORDS },
 }
 
-// The first n words of a list are marked. Was none marked before?
-fn marks(list: &[u64], n: usize, seen: &mut [u64; BIT_WORDS]) -> bool
-    requires { (n ≤ length list.now) × Below COLUMN-BITS n list.now × (length seen.old ≡ BIT-WORDS) }
-    ensures { Added (λ e. occurs e (take n list.now)) result seen.old seen.new }
-{
-    let mut ok = true;
-    let mut i = 0;
-    while i < n {
-        ok = ok & mark(seen, list[i] as usize);
-        i += 1;
+impl Marks {
+    // None is marked.
+    pub(crate) fn none() -> Marks
+        ensures { result.bits ≡ replicate BIT-WORDS 0 }
+    {
+        Marks {
+            bits: [0; BIT_WORDS],
+        }
     }
-    ok
-}
 
-// The entry that a names, one up, is marked; 0 names none.
-fn mark_up(seen: &mut [u64; BIT_WORDS], a: usize) -> bool
-    requires { (a ≤ COLUMN-BITS) × (length seen.old ≡ BIT-WORDS) }
-    ensures { Added (λ d. bool_byte (eqb a (suc d))) result seen.old seen.new }
-{
-    if a == 0 {
-        return true;
+    // Those are marked that have their bit in a column.
+    fn of(bits: &[u64]) -> Marks
+        requires { length bits.now ≡ BIT-WORDS }
+        ensures { result.bits ≡ bits.now }
+    {
+        Marks {
+            bits: [bits[0], bits[1], bits[2], bits[3]],
+        }
     }
-    mark(seen, a - 1)
-}
 
-// The entries that a list names, one up, are marked. Was none marked before?
-fn marks_up(list: &[u64], seen: &mut [u64; BIT_WORDS]) -> bool
-    requires { Below (suc COLUMN-BITS) (length list.now) list.now × (length seen.old ≡ BIT-WORDS) }
-    ensures { Added (λ d. occurs (suc d) list.now) result seen.old seen.new }
-{
-    let mut ok = true;
-    let mut i = 0;
-    while i < list.len() {
-        ok = ok & mark_up(seen, list[i] as usize);
-        i += 1;
+    // Of the first n slots those are marked that are not runnable.
+    fn resting(states: &[u64], n: usize) -> Marks
+        requires { (n ≤ length states.now) × (n ≤ COLUMN-BITS) }
+        ensures { AllResting states.now n result.bits }
+    {
+        let a = resting(states, n, 0);
+        let b = resting(states, n, 1);
+        let c = resting(states, n, 2);
+        let d = resting(states, n, 3);
+        Marks { bits: [a, b, c, d] }
     }
-    ok
+
+    // Is entry e marked?
+    pub(crate) fn has(&self, e: usize) -> bool
+        ensures { result ≡ free self.now.bits e }
+    {
+        is_free(&self.bits, e)
+    }
+
+    // Entry e is marked. Was it not marked before?
+    fn mark(&mut self, e: usize) -> bool
+        requires { e < COLUMN-BITS }
+        ensures { Added (λ d. bool_byte (eqb e d)) result self.old.bits self.new.bits }
+    {
+        let word = self.bits[e / WORD_BITS];
+        let bit = power(e % WORD_BITS);
+        self.bits[e / WORD_BITS] = word | bit;
+        (word & bit) == 0
+    }
+
+    // The first n words of a list are marked. Was none marked before?
+    fn mark_each(&mut self, list: &[u64], n: usize) -> bool
+        requires { (n ≤ length list.now) × Below COLUMN-BITS n list.now }
+        ensures { Added (λ e. occurs e (take n list.now)) result self.old.bits self.new.bits }
+    {
+        let mut ok = true;
+        for i in 0..n {
+            ok &= self.mark(list[i] as usize);
+        }
+        ok
+    }
+
+    // The entry that a names, one up, is marked; 0 names none.
+    fn mark_up(&mut self, a: usize) -> bool
+        requires { a ≤ COLUMN-BITS }
+        ensures { Added (λ d. bool_byte (eqb a (suc d))) result self.old.bits self.new.bits }
+    {
+        if a == 0 {
+            return true;
+        }
+        self.mark(a - 1)
+    }
+
+    // The entries that a list names, one up, are marked. Was none marked before?
+    fn mark_each_up(&mut self, list: &[u64]) -> bool
+        requires { Below (suc COLUMN-BITS) (length list.now) list.now }
+        ensures { Added (λ d. occurs (suc d) list.now) result self.old.bits self.new.bits }
+    {
+        let mut ok = true;
+        for word in list {
+            ok &= self.mark_up(*word as usize);
+        }
+        ok
+    }
+
+    // The same, of a list that may be all 0: one OR tells.
+    fn mark_part_up(&mut self, list: &[u64]) -> bool
+        requires { Below (suc COLUMN-BITS) (length list.now) list.now }
+        ensures { Added (λ d. occurs (suc d) list.now) result self.old.bits self.new.bits }
+    {
+        if zero_from(list, 0, list.len()) {
+            return true;
+        }
+        self.mark_each_up(list)
+    }
+
+    // The same, part by part.
+    fn mark_parts_up(&mut self, list: &[u64]) -> bool
+        requires { Below (suc COLUMN-BITS) (length list.now) list.now }
+        ensures { Added (λ d. occurs (suc d) list.now) result self.old.bits self.new.bits }
+    {
+        let mut ok = true;
+        for part in list.chunks(PART) {
+            ok &= self.mark_part_up(part);
+        }
+        ok
+    }
+
+    // The entries that a list names, one up, of which the first n words count, and the others are 0.
+    pub(crate) fn mark_first_up(&mut self, list: &[u64], n: usize) -> bool
+        requires { (n ≤ length list.now) × Below (suc COLUMN-BITS) (length list.now) list.now × Ended n list.now }
+        ensures { Added (λ d. occurs (suc d) list.now) result self.old.bits self.new.bits }
+    {
+        self.mark_each_up(&list[..n])
+    }
+
+    // All that the owners of data entries name, apart from the queued messages: a call for each.
+    fn mark_others(&mut self, t: &[u64], p: &[u8], k: Caps) -> bool
+        requires { RoomWith k (λ s. Holds (plain_rules k s)) t.now p.now }
+        ensures { Of k (λ s. Added (λ d. held OTHERS s d) result self.old.bits self.new.bits) t.now p.now }
+    {
+        let hands = self.mark_each_up(column(t, p, k, HAND));
+        let n = get(t, p, k, ISSUED, 0) as usize;
+        let values = self.mark_first_up(column(t, p, k, ISSUE), n);
+        hands & values
+    }
+
+    // Is each of n entries marked that has its bit in word j?
+    fn full(&self, n: usize, j: usize) -> bool
+        requires { j < BIT-WORDS }
+        ensures { result ≡ test (full_rule n self.now.bits j) }
+    {
+        let from = WORD_BITS * j;
+        if n <= from {
+            return true;
+        }
+        let low = ones(n - from);
+        (self.bits[j] & low) == low
+    }
+
+    // Is each of n entries marked?
+    fn all(&self, n: usize) -> bool
+        requires { n ≤ COLUMN-BITS }
+        ensures { result ≡ test (each n (λ e. is (free self.now.bits e))) }
+    {
+        (0..BIT_WORDS).all(|j| self.full(n, j))
+    }
 }
 
 // The first n arrivals are marked in one set, and in another the data entries that the first n mailbox entries name, one up: the two chains of marks go side by side.
-fn marks_both(
+fn mark_both(
     arrivals: &[u64],
     entries: &[u64],
     n: usize,
-    seen: &mut [u64; BIT_WORDS],
-    held: &mut [u64; BIT_WORDS],
+    seen: &mut Marks,
+    held: &mut Marks,
 ) -> bool
-    requires { (n ≤ length arrivals.now) × (n ≤ length entries.now) × Below COLUMN-BITS n arrivals.now × Below (suc COLUMN-BITS) n entries.now × (length seen.old ≡ BIT-WORDS) × (length held.old ≡ BIT-WORDS) }
-    ensures { AddedBoth (λ e. occurs e (take n arrivals.now)) (λ d. occurs (suc d) (take n entries.now)) result seen.old seen.new held.old held.new }
+    requires { (n ≤ length arrivals.now) × (n ≤ length entries.now) × Below COLUMN-BITS n arrivals.now × Below (suc COLUMN-BITS) n entries.now }
+    ensures { AddedBoth (λ e. occurs e (take n arrivals.now)) (λ d. occurs (suc d) (take n entries.now)) result seen.old.bits seen.new.bits held.old.bits held.new.bits }
 {
     let mut ok = true;
-    let mut i = 0;
-    while i < n {
-        let once = mark(seen, arrivals[i] as usize);
-        let named = mark_up(held, entries[i] as usize);
-        ok = ok & (once & named);
-        i += 1;
-    }
-    ok
-}
-
-// The entries that the words from one up to another name, one up. Where these words are all 0 one OR tells.
-fn marks_part(list: &[u64], from: usize, to: usize, seen: &mut [u64; BIT_WORDS]) -> bool
-    requires { (from ≤ to) × (to ≤ length list.now) × Below (suc COLUMN-BITS) (length list.now) list.now × (length seen.old ≡ BIT-WORDS) }
-    ensures { Added (λ d. occurs (suc d) (take (to - from) (drop from list.now))) result seen.old seen.new }
-{
-    if zero_from(list, from, to) {
-        return true;
-    }
-    marks_up(&list[from..to], seen)
-}
-
-// The end of the part that begins at word i, of a list of that length.
-fn part_end(i: usize, length: usize) -> usize
-    requires { i < length }
-    ensures { (i < result) × (result ≤ length) }
-{
-    if length - i <= PART {
-        return length;
-    }
-    i + PART
-}
-
-// The entries that a list names, one up, from its n-th word on, part by part.
-fn marks_rest(list: &[u64], n: usize, seen: &mut [u64; BIT_WORDS]) -> bool
-    requires { (n ≤ length list.now) × Below (suc COLUMN-BITS) (length list.now) list.now × (length seen.old ≡ BIT-WORDS) }
-    ensures { Added (λ d. occurs (suc d) (drop n list.now)) result seen.old seen.new }
-{
-    let mut ok = true;
-    let mut i = n;
-    while i < list.len() {
-        let to = part_end(i, list.len());
-        ok = ok & marks_part(list, i, to, seen);
-        i = to;
+    for i in 0..n {
+        let once = seen.mark(arrivals[i] as usize);
+        let named = held.mark_up(entries[i] as usize);
+        ok &= once & named;
     }
     ok
 }
 
 // The first n arrivals in one set, and in another all that the mailbox entries name.
-fn marks_mails(
+fn mark_mails(
     arrivals: &[u64],
     entries: &[u64],
     n: usize,
-    seen: &mut [u64; BIT_WORDS],
-    held: &mut [u64; BIT_WORDS],
+    seen: &mut Marks,
+    held: &mut Marks,
 ) -> bool
-    requires { (n ≤ length arrivals.now) × (n ≤ length entries.now) × Below COLUMN-BITS n arrivals.now × Below (suc COLUMN-BITS) (length entries.now) entries.now × (length seen.old ≡ BIT-WORDS) × (length held.old ≡ BIT-WORDS) }
-    ensures { AddedBoth (λ e. occurs e (take n arrivals.now)) (λ d. occurs (suc d) entries.now) result seen.old seen.new held.old held.new }
+    requires { (n ≤ length arrivals.now) × (n ≤ length entries.now) × Below COLUMN-BITS n arrivals.now × Below (suc COLUMN-BITS) (length entries.now) entries.now }
+    ensures { AddedBoth (λ e. occurs e (take n arrivals.now)) (λ d. occurs (suc d) entries.now) result seen.old.bits seen.new.bits held.old.bits held.new.bits }
 {
-    let first = marks_both(arrivals, entries, n, seen, held);
-    let rest = marks_rest(entries, n, held);
+    let first = mark_both(arrivals, entries, n, seen, held);
+    let rest = held.mark_parts_up(&entries[n..]);
     first & rest
 }
 
-// The entries that a list names, one up, of which the first n words count, and the others are 0.
-pub fn marks_first(list: &[u64], n: usize, seen: &mut [u64; BIT_WORDS]) -> bool
-    requires { (n ≤ length list.now) × Below (suc COLUMN-BITS) (length list.now) list.now × Ended n list.now × (length seen.old ≡ BIT-WORDS) }
-    ensures { Added (λ d. occurs (suc d) list.now) result seen.old seen.new }
-{
-    marks_up(&list[0..n], seen)
-}
-
-// All that the owners of data entries name, apart from the queued messages: a call for each.
-fn marks_others(t: &[u64], p: &[u8], k: Caps, seen: &mut [u64; BIT_WORDS]) -> bool
-    requires { RoomWith k (λ s. Holds (plain_rules k s)) t.now p.now × (length seen.old ≡ BIT-WORDS) }
-    ensures { Of k (λ s. Added (λ d. held OTHERS s d) result seen.old seen.new) t.now p.now }
-{
-    let hands = marks_up(column(t, p, k, HAND), seen);
-    let n = get(t, p, k, ISSUED, 0) as usize;
-    let values = marks_first(column(t, p, k, ISSUE), n, seen);
-    hands & values
-}
-
-// ---- what is marked at first
-// The bits of a column.
-fn copied(bits: &[u64]) -> [u64; BIT_WORDS]
-    requires { length bits.now ≡ BIT-WORDS }
-    ensures { result ≡ bits.now }
-{
-    [bits[0], bits[1], bits[2], bits[3]]
-}
-
+// ---- what is marked at first, and in the end
 // How many of n entries have their bit in word j.
 fn in_word(n: usize, j: usize) -> usize
     requires { j < BIT-WORDS }
     ensures { result ≡ in_word n j }
 {
-    let from = WORD_BITS * j;
-    if n <= from {
-        return 0;
-    }
-    if WORD_BITS <= n - from {
-        return WORD_BITS;
-    }
-    n - from
+    n.saturating_sub(WORD_BITS * j).min(WORD_BITS)
 }
 
 // The slots that are not runnable, of the first n those that have their bit in word j.
@@ -199,61 +232,21 @@ fn resting(states: &[u64], n: usize, j: usize) -> u64
 {
     let from = WORD_BITS * j;
     let few = in_word(n, j);
-    let mut word: u64 = 0;
-    let mut i = 0;
-    while i < few {
-        word = word | (((!(states[from + i] == RUNNABLE)) as u64) << i);
-        i += 1;
+    let mut word = 0;
+    for i in 0..few {
+        word |= u64::from(states[from + i] != RUNNABLE) << i;
     }
     word
 }
 
-// All of the first n that are not.
-fn all_resting(states: &[u64], n: usize) -> [u64; BIT_WORDS]
-    requires { (n ≤ length states.now) × (n ≤ COLUMN-BITS) }
-    ensures { AllResting states.now n result }
-{
-    let a = resting(states, n, 0);
-    let b = resting(states, n, 1);
-    let c = resting(states, n, 2);
-    let d = resting(states, n, 3);
-    [a, b, c, d]
-}
-
-// ---- what is marked in the end
 // The number whose lowest m bits are 1; all of them, where it has no more.
 fn ones(m: usize) -> u64
     ensures { result ≡ 2 ^ min WORD-BITS m - 1 }
 {
     if WORD_BITS <= m {
-        return 0xffff_ffff_ffff_ffff;
+        return u64::MAX;
     }
     (1 << m) - 1
-}
-
-// Is each of n entries marked that has its bit in word j?
-fn full(seen: &[u64; BIT_WORDS], n: usize, j: usize) -> bool
-    requires { j < BIT-WORDS }
-    ensures { result ≡ test (full_rule n seen.now j) }
-{
-    let from = WORD_BITS * j;
-    if n <= from {
-        return true;
-    }
-    let low = ones(n - from);
-    (seen[j] & low) == low
-}
-
-// Is each of n entries marked?
-fn all_marked(seen: &[u64; BIT_WORDS], n: usize) -> bool
-    requires { n ≤ COLUMN-BITS }
-    ensures { result ≡ test (each n (λ e. is (free seen.now e))) }
-{
-    let a = full(seen, n, 0);
-    let b = full(seen, n, 1);
-    let c = full(seen, n, 2);
-    let d = full(seen, n, 3);
-    ((a & b) & c) & d
 }
 
 // ---- the rules
@@ -262,10 +255,10 @@ pub fn once_ok(t: &[u64], p: &[u8], k: Caps) -> bool
     requires { RoomWith k (λ s. Holds (plain_rules k s)) t.now p.now }
     ensures { Tests k (λ s. each k.actors (λ a. once_rule s a)) t.now p.now result }
 {
-    let mut seen = all_resting(column(t, p, k, STATE), k.actors);
+    let mut seen = Marks::resting(column(t, p, k, STATE), k.actors);
     let n = get(t, p, k, QUEUED, 0) as usize;
-    let once = marks(column(t, p, k, QUEUE), n, &mut seen);
-    let all = all_marked(&seen, k.actors);
+    let once = seen.mark_each(column(t, p, k, QUEUE), n);
+    let all = seen.all(k.actors);
     once & all
 }
 
@@ -274,14 +267,14 @@ pub fn counted_ok(t: &[u64], p: &[u8], k: Caps) -> bool
     requires { RoomWith k (λ s. Holds (plain_rules k s)) t.now p.now }
     ensures { Tests k (λ s. both (each k.mails (λ e. arrived_rule s e)) (each k.datas (λ d. held_rule s d))) t.now p.now result }
 {
-    let mut seen = copied(column(t, p, k, MAIL_FREE));
-    let mut held = copied(column(t, p, k, DATA_FREE));
+    let mut seen = Marks::of(column(t, p, k, MAIL_FREE));
+    let mut held = Marks::of(column(t, p, k, DATA_FREE));
     let arrivals = column(t, p, k, ARRIVAL);
     let entries = column(t, p, k, MAIL_DATA);
     let n = get(t, p, k, ARRIVED, 0) as usize;
-    let once = marks_mails(arrivals, entries, n, &mut seen, &mut held);
-    let others = marks_others(t, p, k, &mut held);
-    let mails = all_marked(&seen, k.mails);
-    let datas = all_marked(&held, k.datas);
+    let once = mark_mails(arrivals, entries, n, &mut seen, &mut held);
+    let others = held.mark_others(t, p, k);
+    let mails = seen.all(k.mails);
+    let datas = held.all(k.datas);
     (once & others) & (mails & datas)
 }

@@ -1,5 +1,5 @@
 // The rules of the data entries: a free one is all zero, and any other holds a message, or a bus's value.
-ghost use Rattle.std.specs.Prelude.{◌≡◌, ◌+◌, ◌*◌, ◌≤◌, ◌<◌, length, get_or};
+ghost use Rattle.std.specs.Prelude.{◌≡◌, ◌+◌, ◌*◌, ◌≤◌, ◌<◌, length};
 ghost use Rattle.records.specs.Header.{class_of};
 ghost use Rattle.rules.specs.Rule.{test, both, each};
 ghost use Rattle.rules.specs.Sound.{header_rule, length_rule, sender_rule, data_rule};
@@ -44,86 +44,67 @@ fn sender_ok(ages: &[u64], class: u64, sender: u64) -> bool
     (1 <= sender / ACTOR_FACTOR) & (sender / ACTOR_FACTOR <= age)
 }
 
-// Does data entry d hold a message?
-fn message_ok(area: &[u8], ages: &[u64], sender: u64, len: u64, d: usize) -> bool
-    requires { ENTRY-BYTES * d + ENTRY-BYTES ≤ length area.now }
-    ensures { result ≡ test (written_rule area.now ages.now sender len d) }
-{
-    if (PAYLOAD_MOST as u64) < len {
-        return false;
-    }
-    let header = load32(area, ENTRY_BYTES * d);
-    let zero = rest_zero(area, ENTRY_BYTES * d, HEADER_BYTES + (len as usize));
-    let right = header_ok(header, len);
-    let from = sender_ok(ages, class_in(header), sender);
-    right & (from & zero)
-}
-
-// ---- values
-// Does it hold a bus's value? That has neither header nor sender.
-fn posted_ok(area: &[u8], sender: u64, len: u64, d: usize) -> bool
-    requires { ENTRY-BYTES * d + ENTRY-BYTES ≤ length area.now }
-    ensures { result ≡ test (posted_rule area.now sender len d) }
-{
-    if (PAYLOAD_MOST as u64) < len {
-        return false;
-    }
-    let header = load32(area, ENTRY_BYTES * d);
-    let zero = rest_zero(area, ENTRY_BYTES * d, HEADER_BYTES + (len as usize));
-    ((header == 0) & (sender == 0)) & zero
-}
-
 // ---- entries
-// One that is taken, by the word that says of which bus it holds a value.
-fn taken_ok(area: &[u8], ages: &[u64], bus: u64, sender: u64, len: u64, d: usize) -> bool
-    requires { ENTRY-BYTES * d + ENTRY-BYTES ≤ length area.now }
-    ensures { result ≡ test (taken_rule area.now ages.now bus sender len d) }
-{
-    if bus == 0 {
-        return message_ok(area, ages, sender, len, d);
-    }
-    posted_ok(area, sender, len, d)
-}
-
-fn entry_ok(
-    area: &[u8],
-    bits: &[u64],
-    ages: &[u64],
+// A data entry: its place in the payload area, and the words of its columns, of which the first names the bus whose value it holds.
+#[derive(Clone, Copy)]
+struct Entry<'a> {
+    area: &'a [u8],
+    d: usize,
     bus: u64,
     sender: u64,
     len: u64,
-    d: usize,
-) -> bool
-    requires { ENTRY-BYTES * d + ENTRY-BYTES ≤ length area.now }
-    ensures { result ≡ test (entry_rule area.now bits.now ages.now bus sender len d) }
-{
-    if is_free(bits, d) {
-        let any = joined(area, ENTRY_BYTES * d, ENTRY_BYTES / 8);
-        return ((sender | len) | any) == 0;
-    }
-    taken_ok(area, ages, bus, sender, len, d)
+    ghost room: { ENTRY-BYTES * d + ENTRY-BYTES ≤ length area.now },
 }
 
-// The first n of them.
-fn entries_ok(
-    area: &[u8],
-    bits: &[u64],
-    ages: &[u64],
-    buses: &[u64],
-    senders: &[u64],
-    lengths: &[u64],
-    n: usize,
-) -> bool
-    requires { (ENTRY-BYTES * n ≤ length area.now) × (n ≤ length buses.now) × (n ≤ length senders.now) × (n ≤ length lengths.now) }
-    ensures { result ≡ test (each n (λ d. entry_rule area.now bits.now ages.now (get_or buses.now d 0) (get_or senders.now d 0) (get_or lengths.now d 0) d)) }
-{
-    let mut ok = true;
-    let mut d = 0;
-    while d < n {
-        ok = ok & entry_ok(area, bits, ages, buses[d], senders[d], lengths[d], d);
-        d += 1;
+impl Entry<'_> {
+    // Does it hold a message?
+    fn message_ok(&self, ages: &[u64]) -> bool
+        ensures { result ≡ test (written_rule self.now.area.now ages.now self.now.sender self.now.len self.now.d) }
+    {
+        if (PAYLOAD_MOST as u64) < self.len {
+            return false;
+        }
+        let header = load32(self.area, ENTRY_BYTES * self.d);
+        let end = HEADER_BYTES + (self.len as usize);
+        let zero = rest_zero(self.area, ENTRY_BYTES * self.d, end);
+        let right = header_ok(header, self.len);
+        let from = sender_ok(ages, class_in(header), self.sender);
+        right & (from & zero)
     }
-    ok
+
+    // Does it hold a bus's value? That has neither header nor sender.
+    fn posted_ok(&self) -> bool
+        ensures { result ≡ test (posted_rule self.now.area.now self.now.sender self.now.len self.now.d) }
+    {
+        if (PAYLOAD_MOST as u64) < self.len {
+            return false;
+        }
+        let header = load32(self.area, ENTRY_BYTES * self.d);
+        let end = HEADER_BYTES + (self.len as usize);
+        let zero = rest_zero(self.area, ENTRY_BYTES * self.d, end);
+        ((header == 0) & (self.sender == 0)) & zero
+    }
+
+    // One that is taken.
+    fn taken_ok(&self, ages: &[u64]) -> bool
+        ensures { result ≡ test (taken_rule self.now.area.now ages.now self.now.bus self.now.sender self.now.len self.now.d) }
+    {
+        if self.bus == 0 {
+            return self.message_ok(ages);
+        }
+        self.posted_ok()
+    }
+
+    // One that is free or taken, as the column of free bits says.
+    fn entry_ok(&self, bits: &[u64], ages: &[u64]) -> bool
+        ensures { result ≡ test (entry_rule self.now.area.now bits.now ages.now self.now.bus self.now.sender self.now.len self.now.d) }
+    {
+        if is_free(bits, self.d) {
+            let any = joined(self.area, ENTRY_BYTES * self.d, ENTRY_BYTES / 8);
+            return ((self.sender | self.len) | any) == 0;
+        }
+        self.taken_ok(ages)
+    }
 }
 
 // The payload area.
@@ -145,5 +126,16 @@ pub fn datas(t: &[u64], p: &[u8], k: Caps) -> bool
     let buses = column(t, p, k, VALUE_BUS);
     let senders = column(t, p, k, SENDER);
     let lengths = column(t, p, k, LENGTH);
-    entries_ok(area, bits, ages, buses, senders, lengths, k.datas)
+    let mut ok = true;
+    for d in 0..k.datas {
+        let entry = Entry {
+            area,
+            d,
+            bus: buses[d],
+            sender: senders[d],
+            len: lengths[d],
+        };
+        ok &= entry.entry_ok(bits, ages);
+    }
+    ok
 }

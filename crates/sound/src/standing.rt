@@ -17,11 +17,8 @@ pub fn stand(states: &[u64], row: &mut [u8])
     requires { (length states.now < length row.old) × Clear row.old }
     ensures { Standing states.now row.new }
 {
-    let mut a = 0;
-    while a < states.len() {
-        let state = states[a];
-        row[a + 1] = (!(state == FREE)) as u8 + 2 * ((state == WAITS) as u8);
-        a += 1;
+    for (a, state) in states.iter().enumerate() {
+        row[a + 1] = u8::from(*state != FREE) + 2 * u8::from(*state == WAITS);
     }
 }
 
@@ -29,18 +26,12 @@ pub fn stand(states: &[u64], row: &mut [u8])
 pub fn lives(row: &[u8], word: u64) -> bool
     ensures { result ≡ lives_in row.now word }
 {
-    if word < (row.len() as u64) {
-        return !(row[word as usize] == 0);
-    }
-    false
+    word < row.len() as u64 && row[word as usize] != 0
 }
 
 // Does it name a waiting one?
 pub fn waits(row: &[u8], word: u64) -> bool
     ensures { result ≡ waits_in_of row.now word }
 {
-    if word < (row.len() as u64) {
-        return row[word as usize] == 3;
-    }
-    false
+    word < row.len() as u64 && row[word as usize] == 3
 }

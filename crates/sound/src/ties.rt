@@ -1,11 +1,11 @@
 // The rules of links, monitors and timers, over their columns and the row of how slots stand.
-ghost use Rattle.std.specs.Prelude.{◌≡◌, suc, ◌<◌, ◌≤◌, length, get_or};
+ghost use Rattle.std.specs.Prelude.{◌≡◌, suc, ◌<◌, ◌≤◌, length};
 ghost use Rattle.pools.specs.Slot.{id_of};
 ghost use Rattle.rules.specs.Rule.{test, both, each};
 ghost use Rattle.rules.specs.Sound.{interval_rule, link_rule, monitor_rule, pair_rule, timer_rule};
 ghost use Rattle.rules.specs.Host.{Tests};
-ghost use Rattle.sound.specs.Pairs.{PairSeen, Square};
-ghost use Rattle.sound.specs.Standing.{FEW-ACTORS, Clear, Spans, Standing};
+ghost use Rattle.sound.specs.Pairs.{PairSeen, Square, square_words};
+ghost use Rattle.sound.specs.Standing.{Clear, Spans, Standing};
 ghost use Rattle.sound.specs.Ties.{ends_in, links_in, monitor_in, timer_in, LinkSeen};
 ghost use Rattle.tables.specs.Columns.{STATE};
 ghost use Rattle.tables.specs.Limits.{MOST-ACTORS};
@@ -28,7 +28,7 @@ fn ends_ok(row: &[u8], one: u64, two: u64) -> bool
 {
     let first = lives(row, one);
     let second = lives(row, two);
-    first & (second & !(one == two))
+    first & (second & (one != two))
 }
 
 // ---- "no pair twice": each pair is marked in a square of bits, slot by slot, once for each order; a mark is a bit that is 1, as that of a free entry
@@ -75,50 +75,51 @@ fn link_ok(row: &[u8], seen: &mut [u64], side: usize, one: u64, two: u64) -> boo
     false
 }
 
-// The first n of them, marked in a square that is clear.
-fn links_in(row: &[u8], one: &[u64], two: &[u64], n: usize, seen: &mut [u64], side: usize) -> bool
-    requires { Spans (suc side) row.now × Square side (length seen.old) × Clear seen.old × (n ≤ length one.now) × (n ≤ length two.now) }
-    ensures { result ≡ test (links_in row.now one.now two.now n) }
-{
-    let mut ok = true;
-    let mut e = 0;
-    while e < n {
-        ok = ok & link_ok(row, seen, side, one[e], two[e]);
-        e += 1;
-    }
-    ok
+// The words of the first n links, which name their ends, and the row that says how the slots stand.
+#[derive(Clone, Copy)]
+struct Ends<'a> {
+    row: &'a [u8],
+    one: &'a [u64],
+    two: &'a [u64],
+    n: usize,
+    ghost long: { (n ≤ length one.now) × (n ≤ length two.now) },
 }
 
-// Of a box of few actors: the small square is cheap to clear.
-fn links_few(row: &[u8], one: &[u64], two: &[u64], n: usize) -> bool
-    requires { Spans (suc FEW-ACTORS) row.now × (n ≤ length one.now) × (n ≤ length two.now) }
-    ensures { result ≡ test (links_in row.now one.now two.now n) }
-{
-    let mut seen = [0u64; FEW_SQUARE];
-    links_in(row, one, two, n, &mut seen, FEW_ACTORS)
-}
-
-// Of one of more.
-fn links_many(row: &[u8], one: &[u64], two: &[u64], n: usize) -> bool
-    requires { Spans (suc MOST-ACTORS) row.now × (n ≤ length one.now) × (n ≤ length two.now) }
-    ensures { result ≡ test (links_in row.now one.now two.now n) }
-{
-    let mut seen = [0u64; SQUARE];
-    links_in(row, one, two, n, &mut seen, MOST_ACTORS)
-}
-
-// The first n of a box of so many actors. Where none is in use one OR tells, and no square is cleared.
-fn links_of(row: &[u8], one: &[u64], two: &[u64], n: usize, actors: usize) -> bool
-    requires { Spans (suc actors) row.now × (actors ≤ MOST-ACTORS) × (n ≤ length one.now) × (n ≤ length two.now) }
-    ensures { result ≡ test (links_in row.now one.now two.now n) }
-{
-    if zero_from(one, 0, n) {
-        return zero_from(two, 0, n);
+impl Ends<'_> {
+    // All of them, marked in a square that is clear.
+    fn marked_ok(&self, seen: &mut [u64], side: usize) -> bool
+        requires { Spans (suc side) self.now.row.now × Square side (length seen.old) × Clear seen.old }
+        ensures { result ≡ test (links_in self.now.row.now self.now.one.now self.now.two.now self.now.n) }
+    {
+        let mut ok = true;
+        for e in 0..self.n {
+            ok &= link_ok(self.row, seen, side, self.one[e], self.two[e]);
+        }
+        ok
     }
-    if actors <= FEW_ACTORS {
-        return links_few(row, one, two, n);
+
+    // The same, in a square of n words that is made here.
+    fn squared_ok<const N: usize>(&self, side: usize) -> bool
+        requires { Spans (suc side) self.now.row.now × Square side N × (N ≤ square_words MOST-ACTORS) }
+        ensures { result ≡ test (links_in self.now.row.now self.now.one.now self.now.two.now self.now.n) }
+    {
+        let mut seen = [0u64; N];
+        self.marked_ok(&mut seen, side)
     }
-    links_many(row, one, two, n)
+
+    // Those of a box of so many actors. Where none is in use one OR tells, and no square is cleared; the square of a box of few is cheap to clear.
+    fn links_ok(&self, actors: usize) -> bool
+        requires { Spans (suc actors) self.now.row.now × (actors ≤ MOST-ACTORS) }
+        ensures { result ≡ test (links_in self.now.row.now self.now.one.now self.now.two.now self.now.n) }
+    {
+        if zero_from(self.one, 0, self.n) {
+            return zero_from(self.two, 0, self.n);
+        }
+        if actors <= FEW_ACTORS {
+            return self.squared_ok::<FEW_SQUARE>(FEW_ACTORS);
+        }
+        self.squared_ok::<SQUARE>(MOST_ACTORS)
+    }
 }
 
 // The links, and their pairs.
@@ -126,9 +127,13 @@ pub fn links(t: &[u64], p: &[u8], k: Caps, row: &[u8]) -> bool
     requires { RoomWith k (λ s. Standing (s STATE) row.now) t.now p.now }
     ensures { Tests k (λ s. both (each k.links (λ e. link_rule s e)) (each k.links (λ e. pair_rule s e))) t.now p.now result }
 {
-    let one = column(t, p, k, LINK_ONE);
-    let two = column(t, p, k, LINK_TWO);
-    links_of(row, one, two, k.links, k.actors)
+    let links = Ends {
+        row,
+        one: column(t, p, k, LINK_ONE),
+        two: column(t, p, k, LINK_TWO),
+        n: k.links,
+    };
+    links.links_ok(k.actors)
 }
 
 // ---- monitors
@@ -141,20 +146,6 @@ fn monitor_ok(row: &[u8], watcher: u64, watched: u64, age: u64) -> bool
     ends_ok(row, watcher, watched) & ((1 <= age) & (age <= OLDEST))
 }
 
-// The first n of them.
-fn monitors_in(row: &[u8], watcher: &[u64], watched: &[u64], age: &[u64], n: usize) -> bool
-    requires { (n ≤ length watcher.now) × (n ≤ length watched.now) × (n ≤ length age.now) }
-    ensures { result ≡ test (each n (λ e. monitor_in row.now (get_or watcher.now e 0) (get_or watched.now e 0) (get_or age.now e 0))) }
-{
-    let mut ok = true;
-    let mut e = 0;
-    while e < n {
-        ok = ok & monitor_ok(row, watcher[e], watched[e], age[e]);
-        e += 1;
-    }
-    ok
-}
-
 pub fn monitors(t: &[u64], p: &[u8], k: Caps, row: &[u8]) -> bool
     requires { RoomWith k (λ s. Standing (s STATE) row.now) t.now p.now }
     ensures { Tests k (λ s. each k.monitors (λ e. monitor_rule s e)) t.now p.now result }
@@ -162,7 +153,11 @@ pub fn monitors(t: &[u64], p: &[u8], k: Caps, row: &[u8]) -> bool
     let watcher = column(t, p, k, WATCHER);
     let watched = column(t, p, k, WATCHED);
     let age = column(t, p, k, MONITOR_AGE);
-    monitors_in(row, watcher, watched, age, k.monitors)
+    let mut ok = true;
+    for e in 0..k.monitors {
+        ok &= monitor_ok(row, watcher[e], watched[e], age[e]);
+    }
+    ok
 }
 
 // ---- timers
@@ -183,27 +178,6 @@ fn timer_ok(row: &[u8], owner: u64, age: u64, due: u64, interval: u64) -> bool
         & ((due <= DUE_END) & interval_ok(interval))
 }
 
-// The first n of them.
-fn timers_in(
-    row: &[u8],
-    owner: &[u64],
-    age: &[u64],
-    due: &[u64],
-    interval: &[u64],
-    n: usize,
-) -> bool
-    requires { (n ≤ length owner.now) × (n ≤ length age.now) × (n ≤ length due.now) × (n ≤ length interval.now) }
-    ensures { result ≡ test (each n (λ e. timer_in row.now (get_or owner.now e 0) (get_or age.now e 0) (get_or due.now e 0) (get_or interval.now e 0))) }
-{
-    let mut ok = true;
-    let mut e = 0;
-    while e < n {
-        ok = ok & timer_ok(row, owner[e], age[e], due[e], interval[e]);
-        e += 1;
-    }
-    ok
-}
-
 pub fn timers(t: &[u64], p: &[u8], k: Caps, row: &[u8]) -> bool
     requires { RoomWith k (λ s. Standing (s STATE) row.now) t.now p.now }
     ensures { Tests k (λ s. each k.timers (λ e. timer_rule s e)) t.now p.now result }
@@ -212,5 +186,9 @@ pub fn timers(t: &[u64], p: &[u8], k: Caps, row: &[u8]) -> bool
     let age = column(t, p, k, TIMER_AGE);
     let due = column(t, p, k, DUE);
     let interval = column(t, p, k, INTERVAL);
-    timers_in(row, owner, age, due, interval, k.timers)
+    let mut ok = true;
+    for e in 0..k.timers {
+        ok &= timer_ok(row, owner[e], age[e], due[e], interval[e]);
+    }
+    ok
 }

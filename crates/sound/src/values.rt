@@ -1,7 +1,6 @@
 // The rules of the values that stand on buses, and of the row that has them in their order.
 ghost use Rattle.std.specs.Prelude.{◌≡◌, suc, ◌+◌, ◌≤◌, eqb, length, get_or, replicate};
 ghost use mir.Val.{bool_byte};
-ghost use Rattle.pools.specs.Bits.{free};
 ghost use Rattle.pools.specs.Pool.{occurs};
 ghost use Rattle.rules.specs.Rule.{test, both, each, le, Holds};
 ghost use Rattle.rules.specs.Sound.{crowd_rule, head_rule, issue_rule};
@@ -15,35 +14,21 @@ ghost use Rattle.tables.specs.Sizes.{ALL-SEATS};
 ghost use Rattle.tables.specs.State.{Room, RoomWith, head};
 
 use crate::lists::zero_from;
-use crate::marks::marks_first;
-use pools::bits::is_free;
+use crate::marks::Marks;
 use tables::Caps;
 use tables::columns::{BUS_SIZE, BUSES, CLOCK, ISSUE, ISSUED, PUBLISHED, READERS, SEAT, VALUE_BUS};
 use tables::limits::{MOST_BUSES, MOST_SEATS};
-use tables::sizes::BIT_WORDS;
 use tables::words::{column, get};
 
 // ---- the row of values
-// Do the first m words name one of n entries, one up?
-fn named_up(list: &[u64], m: usize, n: u64) -> bool
-    requires { m ≤ length list.now }
-    ensures { result ≡ test (each m (λ i. both (le 1 (get_or list.now i 0)) (le (get_or list.now i 0) n))) }
-{
-    let mut ok = true;
-    let mut i = 0;
-    while i < m {
-        ok = ok & ((1 <= list[i]) & (list[i] <= n));
-        i += 1;
-    }
-    ok
-}
-
-// A row of n words, of which m count.
+// A row of n words, of which m count: those name one of n entries, one up.
 fn issues_ok(list: &[u64], m: usize, n: usize) -> bool
     requires { (m ≤ n) × (n ≤ length list.now) }
     ensures { result ≡ test (each n (λ i. issue_in n m list.now i)) }
 {
-    let named = named_up(list, m, n as u64);
+    let named = list[..m]
+        .iter()
+        .all(|word| (1 <= *word) & (*word <= n as u64));
     let rest = zero_from(list, m, n);
     named & rest
 }
@@ -54,11 +39,9 @@ fn empty_in(seats: &[u64]) -> u64
     requires { MOST-SEATS ≤ length seats.now }
     ensures { Empty seats.now MOST-SEATS result }
 {
-    let mut mask: u64 = 0;
-    let mut i = 0;
-    while i < MOST_SEATS {
-        mask = mask | (((seats[i] == 0) as u64) << i);
-        i += 1;
+    let mut mask = 0;
+    for i in 0..MOST_SEATS {
+        mask |= u64::from(seats[i] == 0) << i;
     }
     mask
 }
@@ -68,11 +51,9 @@ fn empties(seats: &[u64], n: usize, masks: &mut [u64; MOST_BUSES])
     requires { (n ≤ MOST-BUSES) × (ALL-SEATS ≤ length seats.now) × (length masks.old ≡ MOST-BUSES) }
     ensures { Empties seats.now n masks.new }
 {
-    let mut b = 0;
-    while b < n {
+    for b in 0..n {
         let from = MOST_SEATS * b;
         masks[b] = empty_in(&seats[from..from + MOST_SEATS]);
-        b += 1;
     }
 }
 
@@ -101,62 +82,36 @@ fn value_ok(
     false
 }
 
-// The first n of them.
-fn values_in(
-    masks: &[u64; MOST_BUSES],
-    seen: &[u64; BIT_WORDS],
-    made: u64,
-    clock: u64,
-    buses: &[u64],
-    readers: &[u64],
-    published: &[u64],
-    n: usize,
-) -> bool
-    requires { (made ≤ MOST-BUSES) × (length masks.now ≡ MOST-BUSES) × (n ≤ length buses.now) × (n ≤ length readers.now) × (n ≤ length published.now) }
-    ensures { result ≡ test (each n (λ d. value_in masks.now made clock (free seen.now d) (get_or buses.now d 0) (get_or readers.now d 0) (get_or published.now d 0))) }
-{
-    let mut ok = true;
-    let mut d = 0;
-    while d < n {
-        let named = is_free(seen, d);
-        ok = ok
-            & value_ok(
-                masks,
-                made,
-                clock,
-                named,
-                buses[d],
-                readers[d],
-                published[d],
-            );
-        d += 1;
-    }
-    ok
-}
-
 // All of them, by the masks, where those are marked that the row has.
-fn values_by(
-    t: &[u64],
-    p: &[u8],
-    k: Caps,
-    masks: &[u64; MOST_BUSES],
-    seen: &[u64; BIT_WORDS],
-) -> bool
+fn values_by(t: &[u64], p: &[u8], k: Caps, masks: &[u64; MOST_BUSES], seen: &Marks) -> bool
     requires { RoomWith k (λ s. Holds (head_rule k s) × Empties (s SEAT) (head s BUSES) masks.now) t.now p.now }
-    ensures { Tests k (λ s. each k.datas (λ d. named_rule seen.now s d)) t.now p.now result }
+    ensures { Tests k (λ s. each k.datas (λ d. named_rule seen.now.bits s d)) t.now p.now result }
 {
     let made = get(t, p, k, BUSES, 0);
     let clock = get(t, p, k, CLOCK, 0);
     let buses = column(t, p, k, VALUE_BUS);
     let readers = column(t, p, k, READERS);
     let published = column(t, p, k, PUBLISHED);
-    values_in(masks, seen, made, clock, buses, readers, published, k.datas)
+    let mut ok = true;
+    for d in 0..k.datas {
+        let named = seen.has(d);
+        ok &= value_ok(
+            masks,
+            made,
+            clock,
+            named,
+            buses[d],
+            readers[d],
+            published[d],
+        );
+    }
+    ok
 }
 
 // The same, by masks that are made here.
-fn values_ok(t: &[u64], p: &[u8], k: Caps, seen: &[u64; BIT_WORDS]) -> bool
+fn values_ok(t: &[u64], p: &[u8], k: Caps, seen: &Marks) -> bool
     requires { RoomWith k (λ s. Holds (head_rule k s)) t.now p.now }
-    ensures { Tests k (λ s. each k.datas (λ d. named_rule seen.now s d)) t.now p.now result }
+    ensures { Tests k (λ s. each k.datas (λ d. named_rule seen.now.bits s d)) t.now p.now result }
 {
     let mut masks = [0u64; MOST_BUSES];
     let n = get(t, p, k, BUSES, 0) as usize;
@@ -174,8 +129,7 @@ fn count_up(counts: &mut [u64; MOST_BUSES], bus: u64)
         return;
     }
     if bus <= (MOST_BUSES as u64) {
-        let b = (bus - 1) as usize;
-        counts[b] = counts[b] + 1;
+        counts[(bus - 1) as usize] += 1;
     }
 }
 
@@ -184,34 +138,20 @@ fn tally(list: &[u64], counts: &mut [u64; MOST_BUSES])
     requires { (length list.now ≤ MOST-DATAS) × (counts.old ≡ replicate MOST-BUSES 0) }
     ensures { Counts (λ b. occurs (suc b) list.now) counts.new }
 {
-    let mut d = 0;
-    while d < list.len() {
-        count_up(counts, list[d]);
-        d += 1;
+    for bus in list {
+        count_up(counts, *bus);
     }
 }
 
 // Does no bus have too many?
-fn few(counts: &[u64; MOST_BUSES], sizes: &[u64]) -> bool
-    requires { (length counts.now ≡ MOST-BUSES) × (MOST-BUSES ≤ length sizes.now) }
-    ensures { result ≡ test (each MOST-BUSES (λ b. le (get_or counts.now b 0) (get_or sizes.now b 0))) }
-{
-    let mut ok = true;
-    let mut b = 0;
-    while b < MOST_BUSES {
-        ok = ok & (counts[b] <= sizes[b]);
-        b += 1;
-    }
-    ok
-}
-
 fn crowds(t: &[u64], p: &[u8], k: Caps) -> bool
     requires { Room k t.now p.now }
     ensures { Tests k (λ s. each MOST-BUSES (λ b. crowd_rule s b)) t.now p.now result }
 {
     let mut counts = [0u64; MOST_BUSES];
     tally(column(t, p, k, VALUE_BUS), &mut counts);
-    few(&counts, column(t, p, k, BUS_SIZE))
+    let sizes = column(t, p, k, BUS_SIZE);
+    (0..MOST_BUSES).all(|b| counts[b] <= sizes[b])
 }
 
 // ---- all of them
@@ -232,8 +172,8 @@ fn some_stand(t: &[u64], p: &[u8], k: Caps, n: usize) -> bool
     requires { RoomWith k (λ s. Holds (head_rule k s) × Holds (each k.datas (λ i. issue_rule k s i)) × (n ≡ head s ISSUED)) t.now p.now }
     ensures { Tests k (λ s. both (value_rules k s) (issued_rules k s)) t.now p.now result }
 {
-    let mut seen = [0u64; BIT_WORDS];
-    let once = marks_first(column(t, p, k, ISSUE), n, &mut seen);
+    let mut seen = Marks::none();
+    let once = seen.mark_first_up(column(t, p, k, ISSUE), n);
     let values = values_ok(t, p, k, &seen);
     let crowds = crowds(t, p, k);
     (once & values) & crowds

@@ -10,6 +10,7 @@ ghost use Rattle.tables.specs.State.{Room};
 
 use pools::bits::WORD_BITS;
 use tables::Caps;
+use tables::sizes::BIT_WORDS;
 use tables::words::get;
 
 // Word j: all of its bits are entries', or those past the last are 0.
@@ -34,9 +35,5 @@ pub fn words_ok(t: &[u64], p: &[u8], k: Caps, c: usize, n: usize) -> bool
     requires { Room k t.now p.now × (c < REST) }
     ensures { Tests k (λ s. each COLUMN-BITS (λ e. bits_rule n (s c) e)) t.now p.now result }
 {
-    let a = word_ok(t, p, k, c, n, 0);
-    let b = word_ok(t, p, k, c, n, 1);
-    let d = word_ok(t, p, k, c, n, 2);
-    let e = word_ok(t, p, k, c, n, 3);
-    ((a & b) & d) & e
+    (0..BIT_WORDS as u64).all(|j| word_ok(t, p, k, c, n, j))
 }

@@ -4,29 +4,17 @@ ghost use Rattle.rules.specs.Rule.{test};
 ghost use Rattle.rules.specs.Sound.{zeros};
 ghost use Rattle.tables.specs.Limits.{ENTRY-BYTES};
 
-use records::bytes::load32;
+use records::bytes::load64;
 use tables::limits::ENTRY_BYTES;
 
-// Eight bytes as one number.
-fn word_at(p: &[u8], at: usize) -> u64
-    requires { at + 8 ≤ length p.now }
-    ensures { eqb result 0 ≡ test (zeros p.now at 8) }
-{
-    let low = load32(p, at) as u64;
-    let high = load32(p, at + 4) as u64;
-    low + 4_294_967_296 * high
-}
-
-// n such numbers, one after the other, joined by OR, with no way out.
+// n numbers of eight bytes each, one after the other, joined by OR, with no way out.
 pub fn joined(p: &[u8], at: usize, n: usize) -> u64
     requires { at + 8 * n ≤ length p.now }
     ensures { eqb result 0 ≡ test (zeros p.now at (8 * n)) }
 {
-    let mut any: u64 = 0;
-    let mut i = 0;
-    while i < n {
-        any = any | word_at(p, at + 8 * i);
-        i += 1;
+    let mut any = 0;
+    for i in 0..n {
+        any |= load64(p, at + 8 * i);
     }
     any
 }
@@ -36,13 +24,7 @@ fn zero_run(p: &[u8], at: usize, n: usize) -> bool
     requires { at + n ≤ length p.now }
     ensures { result ≡ test (zeros p.now at n) }
 {
-    let mut any: u8 = 0;
-    let mut i = 0;
-    while i < n {
-        any = any | p[at + i];
-        i += 1;
-    }
-    any == 0
+    p[at..at + n].iter().all(|byte| *byte == 0)
 }
 
 // Is an entry zero from its byte s on? n words from there on and the entry's last n words, which meet, are all that is left of it.

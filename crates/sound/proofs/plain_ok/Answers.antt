@@ -19,8 +19,8 @@ returns-then-front_ok c =
     guard_yes c.front_ok.ensures c.if-front_ok.true c.body_ok.ensures
     ∙ plain-parts a.k (view a.k a.t.now a.p.now)
 
-pub returns : goal.returns
-returns c =
+pub returns-else-front_ok : goal.returns-else-front_ok
+returns-else-front_ok c =
     let a = c.args in
     let v = view a.k a.t.now a.p.now in
-    guard_no (test (body_rules a.k v)) c.front_ok.ensures c.if-front_ok.false ∙ plain-parts a.k v
+    c.if-front_ok.false ∙ guard_no (test (body_rules a.k v)) c.front_ok.ensures c.if-front_ok.false ∙ plain-parts a.k v

@@ -18,8 +18,8 @@ returns-then-early_ok c =
     guard_yes c.early_ok.ensures c.if-early_ok.true c.late_ok.ensures
     ∙ late_parts a.k (view a.k a.t.now a.p.now)
 
-pub returns : goal.returns
-returns c =
+pub returns-else-early_ok : goal.returns-else-early_ok
+returns-else-early_ok c =
     let a = c.args in
     let v = view a.k a.t.now a.p.now in
-    guard_no (test (count_rules a.k v)) c.early_ok.ensures c.if-early_ok.false ∙ late_parts a.k v
+    c.if-early_ok.false ∙ guard_no (test (count_rules a.k v)) c.early_ok.ensures c.if-early_ok.false ∙ late_parts a.k v

@@ -15,6 +15,6 @@ pub returns-then-suffices : goal.returns-then-suffices
 unfolding sound_at
 returns-then-suffices c = guard_yes c.suffices.ensures c.if-suffices.true c.rules_ok.ensures
 
-pub returns : goal.returns
+pub returns-else-suffices : goal.returns-else-suffices
 unfolding sound_at
-returns c = guard_no _ c.suffices.ensures c.if-suffices.false
+returns-else-suffices c = c.if-suffices.false ∙ guard_no _ c.suffices.ensures c.if-suffices.false

@@ -2,7 +2,7 @@
 use mathlib.Core.Path.{sym, ◌∙◌}
 use lib.ListN.{get_or}
 use Rattle.rules.specs.Rule.{each}
-use Rattle.rules.proofs.Kept.Rules.{reads, guard_yes, guard_no}
+use Rattle.rules.proofs.Kept.Rules.{reads}
 use Rattle.tables.specs.Limits.{MOST-SEATS}
 use Rattle.sound.specs.Buses.{sitter_in}
 use Rattle.sound.proofs.BusLaws.{before-next, row_empty, row_below}
@@ -18,11 +18,3 @@ none_twice-requires c =
     let a = c.args in
     let sits = (reads (each MOST-SEATS (λ n. sitter_in a.row.now a.limit (get_or a.seats.now n 0) n))).0 (sym c.sitters_ok.ensures ∙ c.if-sitters_ok.true) in
     (c.requires.2, row_below a.row.now a.limit a.seats.now c.requires.0 sits, c.requires.1)
-
-pub returns-then-sitters_ok : goal.returns-then-sitters_ok
-returns-then-sitters_ok c =
-    (guard_yes c.sitters_ok.ensures c.if-sitters_ok.true c.none_twice.ensures.0, c.none_twice.ensures.1)
-
-pub returns : goal.returns
-returns c =
-    (guard_no _ c.sitters_ok.ensures c.if-sitters_ok.false, before-next c.args.stamp c.args.stamps.now c.requires.1)

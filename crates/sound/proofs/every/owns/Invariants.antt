@@ -1,5 +1,4 @@
 -- `sound::every::owns` meets its contract.
-use Prim.Native.Nat.{◌≤◌, ◌-◌}
 use mathlib.Core.Path.{◌≡◌}
 use Rattle.rules.specs.Rule.{test, each}
 use Rattle.sound.specs.Kinds.{own_rule}
@@ -7,7 +6,4 @@ use Rattle.tables.specs.State.{view}
 use Rattle.sound.proofs.every.owns.Given as goal
 
 abbrev pub invariant-loop-i : goal.invariant-loop-i
-invariant-loop-i l = (l.i ≤ l.k.actors) × (l.ok ≡ test (each l.i (λ j. own_rule l.k (view l.k l.t l.p) j)))
-
-abbrev pub decreases-loop-i : goal.decreases-loop-i
-decreases-loop-i l = l.k.actors - l.i
+invariant-loop-i l = l.ok ≡ test (each l.i (λ j. own_rule l.k (view l.k l.t l.p) j))

@@ -1,16 +1,13 @@
 -- `sound::every::spares` meets its contract.
-use native.Mathlib.Omega.{arith}
-use mathlib.Core.Path.{◌≡◌}
-use Rattle.rules.proofs.Kept.Rules.{all_more, all_none}
+use Rattle.std.proofs.Common.{rules}
+use Rattle.rules.specs.Rule.{test}
+use Rattle.rules.specs.Sound.{spare_rule}
 use Rattle.tables.specs.Sizes.{SPARES}
-use borrow.Author.Rules.{rules}
+use Rattle.tables.specs.State.{view}
+use Rattle.sound.proofs.EachLaws.{all_below}
 use Rattle.sound.proofs.every.spares.Goals as goal
 
-pub loop-i-init : goal.loop-i-init
-loop-i-init c = (search rules, rw all_none)
-
-pub loop-i-preserved : goal.loop-i-preserved
-loop-i-preserved c = (search rules, rw all_more (cc))
-
 pub returns : goal.returns
-returns c = let q : c.loop-i.i ≡ SPARES = omega arith in rw q at c.loop-i.invariant.1
+returns c =
+    let a = c.args in
+    all_below (λ i. test (spare_rule (view a.k a.t.now a.p.now) i)) SPARES c.all.ensures.ran (λ x q k. search rules) (λ x q k. search rules)

@@ -1,24 +1,12 @@
 -- `sound::lists::zero_from` meets its contract.
-use native.Mathlib.Omega.{arith}
-use mathlib.Core.Path.{◌≡◌, sym}
-use mathlib.Core.Bool.{true}
-use lib.Dec.{leb}
-use borrow.Author.Tests.{le-leb, lt-leb}
-use Rattle.rules.proofs.Kept.Rules.{all_more, at_all}
-use Rattle.sound.proofs.JoinLaws.{or-test}
-use borrow.Author.Rules.{rules}
+use Rattle.std.proofs.Common.{rules, ◌≡◌, take, drop, bit_or, ◌-◌}
+use Rattle.std.proofs.iter.runs.Made.{chains}
+use Rattle.std.specs.Prelude.{fold}
+use Rattle.sound.proofs.EachLaws.{or_of_words}
 use Rattle.sound.proofs.lists.zero_from.Goals as goal
 
-pub loop-i-init : goal.loop-i-init
-loop-i-init c =
-    let a = c.args in
-    (search rules, search rules, sym (at_all a.m _ (λ j l. rw (lt-leb a.m j l))))
-
-pub loop-i-preserved : goal.loop-i-preserved
-loop-i-preserved c =
-    let l = c.loop-i in
-    let h : leb c.args.m l.i ≡ true = le-leb _ _ l.invariant.0 in
-    (search rules, search rules, rw (or-test, all_more, l.invariant.2, h))
-
 pub returns : goal.returns
-returns c = let q : c.loop-i.i ≡ c.args.n = omega arith in rw q at c.loop-i.invariant.2
+returns c =
+    let a = c.args in
+    let e : c.fold.result ≡ fold bit_or 0 (take (a.n - a.m) (drop a.m a.s.now)) = search (rules, chains) in
+    rw e (or_of_words a.s.now a.m a.n c.requires.0 c.requires.1)

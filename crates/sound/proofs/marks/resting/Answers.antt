@@ -5,11 +5,7 @@ use mathlib.Core.Bool.{Bool}
 use Rattle.pools.specs.Bits.{WORD-BITS}
 use Rattle.sound.specs.Marks.{rests}
 use Rattle.sound.proofs.MarkLaws.{flag_fits, flag_more}
-use borrow.Author.Rules.{rules}
 use Rattle.sound.proofs.marks.resting.Goals as goal
-
-pub loop-i-init : goal.loop-i-init
-loop-i-init c = (search rules, omega arith, λ a l. absurd (omega arith))
 
 pub loop-i-preserved : goal.loop-i-preserved
 loop-i-preserved c =
@@ -17,7 +13,4 @@ loop-i-preserved c =
     let a = c.args in
     let f : ℕ → Bool = λ i. rests a.states.now (WORD-BITS * a.j + i) in
     let m : l.i < WORD-BITS = omega (arith, c.in_word-few.ensures) in
-    (search rules, flag_fits f l.i l.word m l.invariant.1, flag_more f l.i l.word m l.invariant.1 l.invariant.2)
-
-pub returns : goal.returns
-returns c = λ a m. c.loop-i.invariant.2 a (omega (arith, c.in_word-few.ensures))
+    rw c.from.ensures (flag_fits f l.i l.word m l.invariant.0, flag_more f l.i l.word m l.invariant.0 l.invariant.1)

@@ -1,19 +1,29 @@
--- `sound::messages::datas` meets its contract.
+-- The entries below d keep their rule.
 use native.Mathlib.Omega.{arith}
 use lib.Dec.{lit<}
+use Rattle.rules.proofs.Kept.Rules.{all_more, all_none, and_same}
 use Rattle.tables.specs.Columns.{LENGTH, SENDER, VALUE-BUS}
 use Rattle.tables.proofs.ViewLaws.{view-full, view_full_p}
 use Rattle.sound.proofs.messages.datas.Goals as goal
 
-pub entries_ok-requires : goal.entries_ok-requires
-entries_ok-requires c =
-    let a = c.args in
-    let v = view-full a.k a.t.now a.p.now c.requires.words in (
-      rw c.area_of-area.ensures (omega (arith, view_full_p a.k a.t.now a.p.now c.requires.bytes)),
-      rw c.column-buses.ensures (omega (arith, v VALUE-BUS (lit< tt))),
-      rw c.column-senders.ensures (omega (arith, v SENDER (lit< tt))),
-      rw c.column-lengths.ensures (omega (arith, v LENGTH (lit< tt))),
-    )
+pub loop-d-init : goal.loop-d-init
+loop-d-init c = rw all_none
 
-pub returns : goal.returns
-returns c = rw (c.column-lengths.ensures, c.column-senders.ensures, c.column-buses.ensures, c.column-ages.ensures, c.column-bits.ensures, c.area_of-area.ensures) at c.entries_ok.ensures
+pub bounds-buses-d : goal.bounds-buses-d
+bounds-buses-d c =
+    let a = c.args in rw c.column-buses.ensures (omega (arith, view-full a.k a.t.now a.p.now c.requires.words VALUE-BUS (lit< tt)))
+
+pub bounds-senders-d : goal.bounds-senders-d
+bounds-senders-d c =
+    let a = c.args in rw c.column-senders.ensures (omega (arith, view-full a.k a.t.now a.p.now c.requires.words SENDER (lit< tt)))
+
+pub bounds-lengths-d : goal.bounds-lengths-d
+bounds-lengths-d c =
+    let a = c.args in rw c.column-lengths.ensures (omega (arith, view-full a.k a.t.now a.p.now c.requires.words LENGTH (lit< tt)))
+
+pub invariant_of-entry : goal.invariant_of-entry
+invariant_of-entry c =
+    let a = c.args in rw c.area_of-area.ensures (omega (arith, view_full_p a.k a.t.now a.p.now c.requires.bytes))
+
+pub loop-d-preserved : goal.loop-d-preserved
+loop-d-preserved c = rw all_more (and_same c.loop-d.invariant c.entry_ok-ok.ensures)

@@ -1,12 +1,9 @@
 -- `sound::values::tally` meets its contract.
-use Prim.Native.Nat.{suc, ◌≤◌, ◌-◌}
-use lib.ListN.{length, take}
+use Prim.Native.Nat.{suc}
+use lib.ListN.{take}
 use Rattle.pools.specs.Pool.{occurs}
 use Rattle.sound.specs.Values.{Counts}
 use Rattle.sound.proofs.values.tally.Given as goal
 
-abbrev pub invariant-loop-d : goal.invariant-loop-d
-invariant-loop-d l = (l.d ≤ length l.list) × Counts (λ b. occurs (suc b) (take l.d l.list)) l.counts
-
-abbrev pub decreases-loop-d : goal.decreases-loop-d
-decreases-loop-d l = length l.list - l.d
+abbrev pub invariant-loop-bus : goal.invariant-loop-bus
+invariant-loop-bus l = Counts (λ b. occurs (suc b) (take l.bus-index l.list)) l.counts

@@ -10,6 +10,3 @@ pub empties-requires : goal.empties-requires
 empties-requires c =
     let a = c.args in
     (omega (arith, c.get-n.ensures, c.requires.1.1.1.1), rw c.column.ensures (omega (arith, view-full a.k a.t.now a.p.now c.requires.0.words SEAT (lit< tt))), search rules)
-
-pub values_by-requires : goal.values_by-requires
-values_by-requires c = (c.requires.0, (c.requires.1, rw (c.column.ensures, c.get-n.ensures) at c.empties.ensures))

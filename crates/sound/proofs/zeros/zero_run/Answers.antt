@@ -1,19 +1,16 @@
 -- `sound::zeros::zero_run` meets its contract.
-use native.Mathlib.Omega.{arith}
-use mathlib.Core.Path.{◌≡◌}
-use Rattle.rules.specs.Sound.{zeros}
-use Rattle.rules.proofs.Kept.Rules.{all_more, all_none}
-use Rattle.sound.proofs.JoinLaws.{or-test}
-use borrow.Author.Rules.{rules}
+use Rattle.std.proofs.Common.{rules, take, drop, nat_eq, ◌+◌, ◌-◌}
+use Rattle.std.proofs.lemmas.Iterator.{cases_from_all, YieldsList-from_slice}
+use mathlib.Core.Path.{◌≡◌, ◌∙◌}
+use mathlib.Core.Bool.{true, false}
+use Rattle.sound.proofs.EachLaws.{told}
+use Rattle.sound.proofs.ZeroLaws.{run_of}
 use Rattle.sound.proofs.zeros.zero_run.Goals as goal
 
-pub loop-i-init : goal.loop-i-init
-unfolding zeros
-loop-i-init c = (search rules, rw all_none)
-
-pub loop-i-preserved : goal.loop-i-preserved
-unfolding zeros
-loop-i-preserved c = (search rules, rw (or-test, all_more, c.loop-i.invariant.1))
-
 pub returns : goal.returns
-returns c = let e : c.args.n ≡ c.loop-i.i = omega arith in rw e c.loop-i.invariant.1
+returns c =
+    let a = c.args in
+    let part = take (a.at + a.n - a.at) (drop a.at a.p.now) in
+    told (λ x. nat_eq x 0) part
+    (cases_from_all _ _ _ (λ x. nat_eq x 0 ≡ true) (λ x. nat_eq x 0 ≡ false) c.all.ensures.ran (YieldsList-from_slice part cc) (λ x q k. search rules) (λ x q k. search rules))
+    ∙ run_of a.p.now a.at a.n c.requires

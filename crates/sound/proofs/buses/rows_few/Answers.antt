@@ -1,9 +1,0 @@
--- `sound::buses::rows_few` meets its contract.
-use Prim.Native.Nat.{ℕ}
-use lib.ListN.{length-replicate}
-use Rattle.sound.specs.Standing.{FEW-PLACES}
-use Rattle.sound.proofs.StandingLaws.{clear}
-use Rattle.sound.proofs.buses.rows_few.Goals as goal
-
-pub rows_in-requires : goal.rows_in-requires
-rows_in-requires c = (rw (length-replicate {A = ℕ} FEW-PLACES 0) c.requires.0, clear FEW-PLACES, c.requires.1)
