@@ -1,7 +1,7 @@
 -- What the calls on buses turn on.
 use Prim.Native.Nat.{ℕ, ◌+◌, ◌-◌, ◌*◌, ◌≤◌, ◌<◌}
 use mathlib.Core.Path.{◌≡◌, sym, ap, ◌∙◌}
-use mathlib.Core.Bool.{Bool, true, false, cond, not, ◌&&◌}
+use mathlib.Core.Bool.{Bool, true, false, cond, not}
 use mathlib.Core.List.{List, [], ◌++◌}
 use native.Mathlib.Nat.{zero-add}
 use native.Mathlib.Omega.{arith}
@@ -9,7 +9,7 @@ use lib.Dec.{eqb, ltb}
 use lib.ListN.{length, take, drop, length-drop}
 use lib.Seq.{drop_at, length-sets, length-take-le, sets, sets-eq, take_at}
 use Rattle.tables.specs.declared.Caps.{Caps}
-use Rattle.tables.specs.Columns.{LENGTH, PAYLOAD}
+use Rattle.tables.specs.Columns.{LENGTH}
 use Rattle.tables.specs.Limits.{ENTRY-BYTES, HEADER-BYTES, PAYLOAD-MOST}
 use Rattle.tables.specs.State.{Room, State, at, view}
 use Rattle.tables.proofs.ViewLaws.{payload-part}
@@ -20,10 +20,6 @@ use Rattle.rules.specs.Host.{Onto}
 use Rattle.rules.specs.Terms.{runner}
 use Rattle.rules.proofs.Guards.{passed_work}
 use Rattle.calls.specs.Parts.{after_tests}
-
--- ---- a test of the code on what it has read is the rule's: the bus is not full, and there is no entry
-pub lacks : {b x : Bool} {o y : ℕ} → b ≡ x → o ≡ y → (n : ℕ) {t : Bool} → not b && not (ltb o n) ≡ t → not x && not (ltb y n) ≡ t
-lacks e f n h = rw (← e, ← f) h
 
 -- ---- what a read comes to where the slice is long enough
 -- of three tests the third says yes
@@ -44,20 +40,19 @@ module _ (k : Caps) (s : State) (b room : ℕ) (runs : eqb (runner s) 0 ≡ fals
   read-seated q = passed_work (refusal a_copy) s ((read_entry b room).work k s) ((read_entry b room).tests k s) (runs, (fits, (ap not q, record {})))
 
 -- ---- bytes copied to the front of a lent slice
-copied : (m l : List ℕ) (n : ℕ) → length m ≡ n → n ≤ length l → (take n (sets l 0 m) ≡ m) × Onto n l (sets l 0 m)
+pub copied : (m l : List ℕ) (n : ℕ) → length m ≡ n → n ≤ length l → (take n (sets l 0 m) ≡ m) × Onto n l (sets l 0 m)
 copied m l n e h =
     let s : sets l 0 m ≡ m ++ drop n l = sets-eq m l 0 (omega arith) ∙ ap (λ (i : ℕ). m ++ drop i l) (zero-add (length m) ∙ e) in
     (ap (take n) s ∙ take_at m (drop n l) n e, (h, length-sets l 0 m, ap (drop n) s ∙ drop_at m (drop n l) n e))
 
--- those of data entry d
-pub value_copied : (k : Caps) (w p : List ℕ) (d n : ℕ) (l : List ℕ) → Room k w p → d < k.datas → n ≡ at (view k w p) LENGTH d → n ≤ PAYLOAD-MOST → n ≤ length l →
+-- ---- the payload of data entry d lies there
+pub payload_there : (k : Caps) (w p : List ℕ) (d : ℕ) → Room k w p → d < k.datas → at (view k w p) LENGTH d ≤ PAYLOAD-MOST →
     let from = ENTRY-BYTES * d + HEADER-BYTES in
-    let l' = sets l 0 (take (from + n - from) (drop from p)) in
-    (take n l' ≡ value_of (view k w p) d) × Onto n l l'
-value_copied k w p d n l r h e few fits =
+    let n = at (view k w p) LENGTH d in
+    let m = take (from + n - from) (drop from p) in
+    (m ≡ value_of (view k w p) d) × (length m ≡ n)
+payload_there k w p d r h few =
     let from = ENTRY-BYTES * d + HEADER-BYTES in
+    let n = at (view k w p) LENGTH d in
     let same : from + n - from ≡ n = omega arith in
-    let m = take n (drop from p) in
-    let long : length m ≡ n = length-take-le n (drop from p) (omega (arith, length-drop from p, r.bytes)) in
-    let c = copied m l n long fits in
-    rw same (c.0 ∙ sym (payload-part k w p from n (omega arith)) ∙ ap (λ (i : ℕ). take i (drop from (view k w p PAYLOAD))) e, c.1)
+    rw same (sym (payload-part k w p from n (omega arith)), length-take-le n (drop from p) (omega (arith, length-drop from p, r.bytes)))

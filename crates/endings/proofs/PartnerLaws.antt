@@ -1,5 +1,5 @@
 -- The row of the links of one slot: what one more link adds to it, and that it stays right while they end.
-use Prim.Native.Nat.{ℕ, suc, ◌+◌, ◌-◌, ◌<◌}
+use Prim.Native.Nat.{ℕ, zero, suc, ◌+◌, ◌≤◌, ◌<◌}
 use mathlib.Core.Path.{◌≡◌, refl, sym, ap, ◌∙◌}
 use mathlib.Core.Bool.{Bool, true, false, cond, ◌&&◌, ◌||◌}
 use mathlib.Core.List.{List}
@@ -9,7 +9,9 @@ use lib.ListN.{length, get_or, set, replicate, length-set, get_or-replicate}
 use lib.Seq.{get_or-set_same, get_or-set_other}
 use lib.Dec.{eqb, ltb}
 use borrow.Author.Count.{below_more}
-use borrow.Author.Tests.{eqb-true, eqb-false, ne_eqb, ltb-true, ltb-false, lt-ltb, le-ltb}
+use Rattle.std.specs.Prelude.{Option, None, Some}
+use Rattle.std.specs.Option.{option_or}
+use borrow.Author.Tests.{eqb-true, eqb-false, eq-eqb, ne_eqb, ltb-true, ltb-false, lt-ltb, le-ltb}
 use Rattle.pools.specs.Pool.{lowest}
 use Rattle.pools.proofs.BoolLaws.{split}
 use Rattle.pools.proofs.PoolLaws.{lowest-at, lowest-first, lowest-found, lowest_none, lowest-same}
@@ -21,33 +23,21 @@ use Rattle.rules.specs.Terms.{joins}
 use Rattle.rules.specs.Calls.{Told, cut_link, cut_links, link_of, told}
 use Rattle.rules.proofs.Kept.Exit.{cut_none, cut_link_no, cut_link_yes, cut_links_cuts}
 use Rattle.rules.specs.Good.{Going}
-use Rattle.endings.specs.Partners.{Partners, Placed, cut_entry, other_end, up}
+use Rattle.endings.specs.Partners.{Partners, Placed, cut_entry, other_end, slot_of, up}
 
 -- ---- one place
-module _ (row : List ℕ) (b e : ℕ) where
-  -- there is no slot, or none with a place
-  pub placed_none : b ≡ 0 → Placed row b e row
-  placed_none z = record { long = refl; entry = λ c l. rw (ne_eqb b (suc c) (λ q. omega arith)) }
+module _ (row : List (Option ℕ)) (b e : ℕ) where
+  -- the slot has no place
+  pub placed_out : MOST-ACTORS ≤ b → Placed row b e row
+  placed_out h = record { long = refl; entry = λ c l. rw (ne_eqb b c (λ q. omega arith)) }
 
-  pub placed_out : MOST-ACTORS < b → Placed row b e row
-  placed_out h = record { long = refl; entry = λ c l. rw (ne_eqb b (suc c) (λ q. omega arith)) }
-
-  -- its place is 0
-  pub placed_set : (i : ℕ) → b ≡ suc i → i < length row → get_or row i 0 ≡ 0 → Placed row b e (set row i e)
-  placed_set i q l z = record {
-    long = length-set row i e;
-    entry = λ c m. split (eqb b (suc c))
-        (λ r. let v : i ≡ c = omega (arith, eqb-true b (suc c) r) in rw (r, ← v, z) (get_or-set_same row i e 0 l))
-        (λ r. rw r (get_or-set_other row i c e 0 (λ v. eqb-false b (suc c) r (omega arith))));
-  }
-
-  -- it is not
-  pub placed_kept : (i : ℕ) → b ≡ suc i → (get_or row i 0 ≡ 0 → ⊥) → Placed row b e row
-  placed_kept i q n = record {
-    long = refl;
-    entry = λ c m. split (eqb b (suc c))
-        (λ r. let v : i ≡ c = omega (arith, eqb-true b (suc c) r) in rw (r, ← v, ne_eqb (get_or row i 0) 0 n))
-        (λ r. rw r);
+  -- it has
+  pub placed_set : b < length row → Placed row b e (set row b (option_or (get_or row b None) (Some e)))
+  placed_set l = record {
+    long = length-set row b (option_or (get_or row b None) (Some e));
+    entry = λ c m. split (eqb b c)
+        (λ r. let v : b ≡ c = eqb-true b c r in rw (r, ← v) (get_or-set_same row b (option_or (get_or row b None) (Some e)) None l))
+        (λ r. rw r (get_or-set_other row b c (option_or (get_or row b None) (Some e)) None (λ v. eqb-false b c r (sym v))));
   }
 
 -- ---- one link more
@@ -94,16 +84,48 @@ up_step f n =
     rw (e, m, q, r)))
 
 -- no link yet
-pub partners_none : (one two : List ℕ) (x : ℕ) → Partners one two x 0 (replicate MOST-ACTORS 0)
+pub partners_none : (one two : List ℕ) (x : ℕ) → Partners one two x 0 (replicate MOST-ACTORS None)
 unfolding lowest
-partners_none one two x = record { entry = λ b l. get_or-replicate {A = ℕ} MOST-ACTORS b 0 0 l }
+partners_none one two x = record { entry = λ b l. get_or-replicate {A = Option ℕ} MOST-ACTORS b None None l }
 
--- one more
-pub partners-more : (one two : List ℕ) (x n : ℕ) (row row' : List ℕ) → Partners one two x n row → Placed row (other_end (get_or one n 0) (get_or two n 0) x) (n + 1) row' → Partners one two x (n + 1) row'
-partners-more one two x n row row' h p = record {
-  entry = λ b l.
-      p.entry b l ∙ rw (← joins-end one two x b n, h.entry b l) (sym (up_step (joins one two x (suc b)) n));
-}
+-- the same, as a place has them
+noted_step : (f : ℕ → Bool) (n : ℕ) → slot_of (up (n + 1) (lowest f (n + 1))) ≡ cond (f n) (option_or (slot_of (up n (lowest f n))) (Some n)) (slot_of (up n (lowest f n)))
+noted_step f n = ap slot_of (up_step f n) ∙ place (f n) (up n (lowest f n)) where
+  place : (c : Bool) (u : ℕ) → slot_of (cond (c && eqb u 0) (n + 1) u) ≡ cond c (option_or (slot_of u) (Some n)) (slot_of u)
+  place false u = refl
+  place true zero = rw (add-one n)
+  place true (suc u) = rw (up-some u)
+
+-- slot b is the one at the other end
+is_at : Option ℕ → ℕ → Bool
+is_at None b = false
+is_at (Some c) b = eqb c b
+
+at-end : (m b : ℕ) → eqb m (suc b) ≡ is_at (slot_of m) b
+unfolding is_at
+at-end zero b = above_zero b
+at-end (suc a) b = split (eqb a b)
+    (λ q. rw q (eq-eqb (suc a) (suc b) (ap suc (eqb-true a b q))))
+    (λ q. rw q (ne_eqb (suc a) (suc b) (λ v. eqb-false a b q (omega arith))))
+
+-- one more, which joins it with no slot
+module _ (one two : List ℕ) (x n : ℕ) (row : List (Option ℕ)) (h : Partners one two x n row) where
+  pub partners-same : slot_of (other_end (get_or one n 0) (get_or two n 0) x) ≡ None → Partners one two x (n + 1) row
+  unfolding is_at
+  partners-same e = record {
+    entry = λ b l.
+        let q : joins one two x (suc b) n ≡ false = joins-end one two x b n ∙ at-end (other_end (get_or one n 0) (get_or two n 0) x) b ∙ ap (λ (o : Option ℕ). is_at o b) e in
+        h.entry b l ∙ sym (rw q at (noted_step (joins one two x (suc b)) n));
+  }
+
+  -- or with slot c
+  pub partners-more : (c : ℕ) (row' : List (Option ℕ)) → slot_of (other_end (get_or one n 0) (get_or two n 0) x) ≡ Some c → Placed row c n row' → Partners one two x (n + 1) row'
+  unfolding is_at
+  partners-more c row' e p = record {
+    entry = λ b l.
+        let q : joins one two x (suc b) n ≡ eqb c b = joins-end one two x b n ∙ at-end (other_end (get_or one n 0) (get_or two n 0) x) b ∙ ap (λ (o : Option ℕ). is_at o b) e in
+        p.entry b l ∙ rw (← q, h.entry b l) (sym (noted_step (joins one two x (suc b)) n));
+  }
 
 -- ---- the links end
 -- the link with a slot is the one of before the links with the slots below it ended
@@ -114,18 +136,16 @@ link_still k a me reason b s w =
     (λ e l. (cut_links_cuts k s (told 0 0 s) a me reason b (cut_none k s a me w)).joined b e l ∙ rw (le-ltb b b (omega arith)))
 
 -- the link that is noted ends, and no other
-cut-noted : (k : Caps) (a me reason b : ℕ) (t : Told) → cut_link k a me reason b t ≡ cut_entry k me reason b (up k.links (link_of k t.state (suc a) (suc b))) t
+cut-noted : (k : Caps) (a me reason b : ℕ) (t : Told) → cut_link k a me reason b t ≡ cut_entry k me reason b (slot_of (up k.links (link_of k t.state (suc a) (suc b)))) t
 unfolding cut_entry
 cut-noted k a me reason b t =
     split (ltb (link_of k t.state (suc a) (suc b)) k.links)
-    (λ q. let e : suc (link_of k t.state (suc a) (suc b)) - 1 ≡ link_of k t.state (suc a) (suc b) = omega arith in
-    let z = up-some (link_of k t.state (suc a) (suc b)) in
-    rw (q, z, e) (cut_link_yes k a me reason b t q))
+    (λ q. rw q (cut_link_yes k a me reason b t q))
     (λ q. rw q (cut_link_no k a me reason b t q))
 
 -- by the row of before the first ended
-pub cut-row : (k : Caps) (a me reason b : ℕ) (s : State) (row : List ℕ) → Going k a me s → Partners (s LINK-ONE) (s LINK-TWO) (suc a) k.links row → b < MOST-ACTORS
-    → cut_link k a me reason b (cut_links k a me reason b (told 0 0 s)) ≡ cut_entry k me reason b (get_or row b 0) (cut_links k a me reason b (told 0 0 s))
+pub cut-row : (k : Caps) (a me reason b : ℕ) (s : State) (row : List (Option ℕ)) → Going k a me s → Partners (s LINK-ONE) (s LINK-TWO) (suc a) k.links row → b < MOST-ACTORS
+    → cut_link k a me reason b (cut_links k a me reason b (told 0 0 s)) ≡ cut_entry k me reason b (get_or row b None) (cut_links k a me reason b (told 0 0 s))
 cut-row k a me reason b s row w h l =
     let t = cut_links k a me reason b (told 0 0 s) in
-    cut-noted k a me reason b t ∙ ap (λ (e : ℕ). cut_entry k me reason b e t) (ap (up k.links) (link_still k a me reason b s w) ∙ sym (h.entry b l))
+    cut-noted k a me reason b t ∙ ap (λ (e : Option ℕ). cut_entry k me reason b e t) (ap (λ (i : ℕ). slot_of (up k.links i)) (link_still k a me reason b s w) ∙ sym (h.entry b l))

@@ -1,11 +1,12 @@
 // Advance: the clock is raised, due timers fire, the overdue wake, and what has reached its age ends.
-ghost use Rattle.std.specs.Prelude.{◌≡◌, true, ◌≤◌, ◌<◌};
+ghost use Rattle.std.specs.Prelude.{◌≡◌, true, ◌≤◌, ◌<◌, length};
 ghost use Rattle.records.specs.Header.{packed};
 ghost use Rattle.records.specs.Records.{tick_bytes};
 ghost use Rattle.tables.specs.Limits.{SAFE};
 ghost use Rattle.tables.specs.State.{RoomWith, Makes, Does};
 ghost use Rattle.rules.specs.Sound.{Ready};
 ghost use Rattle.rules.specs.Actions.{has_room, post};
+ghost use Rattle.rules.specs.Answers.{advanced_of};
 ghost use Rattle.rules.specs.Calls.{advance_entry, fire, fire_all, fired, rouse, ruled};
 ghost use Rattle.rules.specs.Host.{Gives};
 ghost use Rattle.endings.specs.Asked.{Short, Fires, Raised};
@@ -20,7 +21,7 @@ use actions::timers::rearm;
 use actions::times::earliest;
 use records::header::pack;
 use records::tick::{TICK_BYTES, put_tick};
-use rules::Advanced;
+use rules::refusals::Refusal;
 use rules::states::TIMEOUT;
 use tables::Caps;
 use tables::columns::{CLOCK, DEADLINE, TIMER_AGE, TIMER_OWNER};
@@ -52,19 +53,17 @@ fn fire(t: &mut [u64], p: &mut [u8], k: Caps, i: u64)
     send_tick(t, p, k, owner - 1, age * TIMER_FACTOR + i);
 }
 
-// The due timers, which are the first m of a row, fire from the last on, while both message pools have room. How many did?
-fn fire_row(t: &mut [u64], p: &mut [u8], k: Caps, row: &[u64; MOST_TIMERS], m: usize) -> u64
-    requires { RoomWith k (λ s. Raised k s × Waiting k s m row.now × (m ≤ k.timers)) t.old p.old }
+// The due timers, which stand in a row, fire from the last on, while both message pools have room. How many did?
+fn fire_row(t: &mut [u64], p: &mut [u8], k: Caps, row: &[u64]) -> u64
+    requires { RoomWith k (λ s. Raised k s × Waiting k s (length row.now) row.now × (length row.now ≤ k.timers)) t.old p.old }
     ensures { Does k (λ s. (fire_all k k.timers (fired 0 s)).count) (λ s. (fire_all k k.timers (fired 0 s)).state) t.old p.old result t.new p.new }
 {
-    let mut left = m;
     let mut count: u64 = 0;
-    while 0 < left {
+    for i in row.iter().rev() {
         if !has_room(t, p, k) {
             return count;
         }
-        left -= 1;
-        fire(t, p, k, row[left]);
+        fire(t, p, k, *i);
         count += 1;
     }
     count
@@ -76,9 +75,9 @@ fn fire_all(t: &mut [u64], p: &mut [u8], k: Caps) -> u64
     ensures { Does k (λ s. (fire_all k k.timers (fired 0 s)).count) (λ s. (fire_all k k.timers (fired 0 s)).state) t.old p.old result t.new p.new }
 {
     let clock = get(t, p, k, CLOCK, 0);
-    let mut row = [0u64; MOST_TIMERS];
-    let m = due_timers(t, p, k, clock, &mut row);
-    fire_row(t, p, k, &row, m)
+    let mut places = [0u64; MOST_TIMERS];
+    let row = due_timers(t, p, k, clock, &mut places);
+    fire_row(t, p, k, row)
 }
 
 // ---- deadlines
@@ -89,33 +88,30 @@ fn rouse(t: &mut [u64], p: &[u8], k: Caps)
 {
     let clock = get(t, p, k, CLOCK, 0);
     let n = k.actors as u64;
-    let mut left = n;
-    while 0 < left {
-        let a = earliest(t, p, k, DEADLINE, DEADLINE, clock, n);
-        if a == 0 {
+    for _ in 0..n {
+        let Some(a) = earliest(t, p, k, DEADLINE, DEADLINE, clock, n).checked_sub(1) else {
             return;
-        }
-        wake(t, p, k, a - 1, TIMEOUT);
-        left -= 1;
+        };
+        wake(t, p, k, a, TIMEOUT);
     }
 }
 
 // ---- all of it
-// The clock is raised. 1: by too much, or past its end.
-pub fn advance_in(t: &mut [u64], p: &mut [u8], k: Caps, micros: u64) -> Advanced
+// The clock is raised, unless by too much, or past its end. How many timers fired?
+pub fn advance_in(t: &mut [u64], p: &mut [u8], k: Caps, micros: u64) -> Result<u64, Refusal>
     requires { Ready k t.old p.old }
-    ensures { Gives (ruled (advance_entry micros)) k t.old p.old result t.new p.new }
+    ensures { Gives (ruled (advance_entry micros)) k t.old p.old (advanced_of result) t.new p.new }
 {
     if LONGEST < micros {
-        return Advanced { no: 1, fired: 0 };
+        return Err(Refusal::Malformed);
     }
     let clock = get(t, p, k, CLOCK, 0) + micros;
     if CLOCK_END < clock {
-        return Advanced { no: 1, fired: 0 };
+        return Err(Refusal::Malformed);
     }
     put(t, p, k, CLOCK, 0, clock);
     let fired = fire_all(t, p, k);
     rouse(t, p, k);
     air_all(t, p, k);
-    Advanced { no: 0, fired }
+    Ok(fired)
 }

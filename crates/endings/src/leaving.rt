@@ -1,14 +1,12 @@
 // What an actor that ends owns goes with it: its hand and its mailbox, its monitors, its timers, its subscriptions, its slot. No notice is sent.
-ghost use Rattle.std.specs.Prelude.{cond, suc, ◌≤◌, ◌<◌, eqb};
-ghost use Rattle.tables.specs.Columns.{ARRIVED, BUSES, TIMER-OWNER, WATCHER};
+ghost use Rattle.std.specs.Prelude.{◌≤◌, ◌<◌};
+ghost use Rattle.tables.specs.Columns.{ARRIVED, BUSES};
 ghost use Rattle.tables.specs.Limits.{SAFE};
-ghost use Rattle.tables.specs.State.{at, head, Room, Of, RoomWith, Makes};
+ghost use Rattle.tables.specs.State.{head, Room, Of, RoomWith, Makes};
 ghost use Rattle.rules.specs.Buses.{leave_buses};
-ghost use Rattle.rules.specs.Calls.{disarm, drop_monitors, drop_timers, unwatch, emptied, told, vacate};
+ghost use Rattle.rules.specs.Calls.{drop_monitors, drop_timers, emptied, vacate};
 ghost use Rattle.actions.specs.Standing.{Standing};
-ghost use Rattle.endings.specs.Counted.{Counted};
 
-use crate::notices::Count;
 use actions::dropping::drop_all;
 use actions::leaving::leave_buses;
 use actions::messages::let_go;
@@ -21,70 +19,44 @@ use tables::columns::{PRIORITY, STATE, TIMER_OWNER, WATCHER};
 use tables::words::{get, put};
 
 // The hand and the mailbox of slot a are emptied.
-pub fn clear(t: &mut [u64], p: &mut [u8], k: Caps, a: u64) -> Count
+pub fn clear(t: &mut [u64], p: &mut [u8], k: Caps, a: u64)
     requires { Room k t.old p.old × (a < SAFE) × Of k (λ s. head s ARRIVED ≤ k.mails) t.old p.old }
-    ensures { Counted k (λ s. told 0 0 (emptied s a)) t.old p.old result t.new p.new }
+    ensures { Makes k (λ s. emptied s a) t.old p.old t.new p.new }
 {
     let_go(t, p, k, a);
     drop_all(t, p, k, a);
-    Count { sent: 0, lost: 0 }
-}
-
-// Monitor i ends if slot a watches by it.
-fn drop_monitor(t: &mut [u64], p: &[u8], k: Caps, a: u64, i: u64)
-    requires { Room k t.old p.now × (a < SAFE) }
-    ensures { Makes k (λ s. cond (eqb (at s WATCHER i) (suc a)) (unwatch s i) s) t.old p.now t.new p.now }
-{
-    if get(t, p, k, WATCHER, i) == a + 1 {
-        unwatch(t, p, k, i);
-    }
 }
 
 // All monitors by which slot a watches end.
-pub fn drop_monitors(t: &mut [u64], p: &[u8], k: Caps, a: u64) -> Count
+pub fn drop_monitors(t: &mut [u64], p: &[u8], k: Caps, a: u64)
     requires { Room k t.old p.now × (a < SAFE) }
-    ensures { Counted k (λ s. told 0 0 (drop_monitors a k.monitors s)) t.old p.now result t.new p.now }
+    ensures { Makes k (λ s. drop_monitors a k.monitors s) t.old p.now t.new p.now }
 {
-    let n = k.monitors as u64;
-    let mut i: u64 = 0;
-    while i < n {
-        drop_monitor(t, p, k, a, i);
-        i += 1;
-    }
-    Count { sent: 0, lost: 0 }
-}
-
-// Timer i ends if it is slot a's.
-fn drop_timer(t: &mut [u64], p: &[u8], k: Caps, a: u64, i: u64)
-    requires { Room k t.old p.now × (a < SAFE) }
-    ensures { Makes k (λ s. cond (eqb (at s TIMER-OWNER i) (suc a)) (disarm s i) s) t.old p.now t.new p.now }
-{
-    if get(t, p, k, TIMER_OWNER, i) == a + 1 {
-        disarm(t, p, k, i);
+    for i in 0..k.monitors as u64 {
+        if get(t, p, k, WATCHER, i) == a + 1 {
+            unwatch(t, p, k, i);
+        }
     }
 }
 
 // All timers of slot a end.
-pub fn drop_timers(t: &mut [u64], p: &[u8], k: Caps, a: u64) -> Count
+pub fn drop_timers(t: &mut [u64], p: &[u8], k: Caps, a: u64)
     requires { Room k t.old p.now × (a < SAFE) }
-    ensures { Counted k (λ s. told 0 0 (drop_timers a k.timers s)) t.old p.now result t.new p.now }
+    ensures { Makes k (λ s. drop_timers a k.timers s) t.old p.now t.new p.now }
 {
-    let n = k.timers as u64;
-    let mut i: u64 = 0;
-    while i < n {
-        drop_timer(t, p, k, a, i);
-        i += 1;
+    for i in 0..k.timers as u64 {
+        if get(t, p, k, TIMER_OWNER, i) == a + 1 {
+            disarm(t, p, k, i);
+        }
     }
-    Count { sent: 0, lost: 0 }
 }
 
 // All subscriptions of slot a end.
-pub fn quit_buses(t: &mut [u64], p: &[u8], k: Caps, a: u64) -> Count
+pub fn quit_buses(t: &mut [u64], p: &[u8], k: Caps, a: u64)
     requires { RoomWith k (λ s. (a < SAFE) × (head s BUSES ≤ SAFE)) t.old p.now }
-    ensures { Counted k (λ s. told 0 0 (leave_buses k a (head s BUSES) s)) t.old p.now result t.new p.now }
+    ensures { Makes k (λ s. leave_buses k a (head s BUSES) s) t.old p.now t.new p.now }
 {
     leave_buses(t, p, k, a);
-    Count { sent: 0, lost: 0 }
 }
 
 // Slot a, whose actor ran, was runnable or waited, is free. Its age stays.

@@ -2,6 +2,7 @@
 pub mod Actions
 pub mod Aged
 pub mod Agrees
+pub mod Answers
 pub mod Buses
 pub mod Calls
 pub mod Examples

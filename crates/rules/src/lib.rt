@@ -1,6 +1,7 @@
 // The answers of the host calls. The rules of the calls, and what a sound runtime is, are definitions: see specs/.
 #![tactic(auto)]
 
+pub mod refusals;
 pub mod states;
 
 // The number, and the new id.

@@ -11,12 +11,12 @@ use borrow.Author.Tests.{ne_eqb, lt-ltb, le-ltb, ltb-true, ltb-false, eqb-true, 
 use Rattle.pools.proofs.BoolLaws.{split}
 use Rattle.tables.specs.declared.Caps.{Caps}
 use Rattle.tables.specs.Columns.{PAST, PAYLOAD, REST}
-use Rattle.tables.specs.State.{cut, needed, needed_p, sizes, sizes_p, sum, view, Room}
+use Rattle.tables.specs.State.{State, cut, poke, needed, needed_p, sizes, sizes_p, sum, view, Room}
 use Rattle.tables.proofs.RowLaws.{cut-past}
 use Rattle.tables.proofs.ViewLaws.{needed-sum}
-use Rattle.rules.specs.Host.{zeroed}
+use Rattle.rules.specs.Host.{ones, zeroed}
 
-abbrev zeros : ℕ → List ℕ
+abbrev pub zeros : ℕ → List ℕ
 zeros n = replicate n 0
 
 -- a row of zeros and a rest: every column is zeros, and the rest is the last
@@ -37,7 +37,7 @@ cut_rest [] w = refl
 cut_rest (n ∷ ns) w = cut_rest ns (drop n w) ∙ drop-drop (sum ns) n w
 
 -- n zeros stored from the front
-zeros_front : (w : List ℕ) (n : ℕ) → n ≤ length w → sets w 0 (zeros n) ≡ zeros n ++ drop n w
+pub zeros_front : (w : List ℕ) (n : ℕ) → n ≤ length w → sets w 0 (zeros n) ≡ zeros n ++ drop n w
 zeros_front w n h =
     let e : length (zeros n) ≡ n = length-replicate n 0 in
     let f : 0 + length (zeros n) ≡ n = omega (arith, e) in
@@ -81,3 +81,8 @@ view-zeroed k w p r = fun_ext (λ c.
 -- and have room as before
 pub room_zeroed : (k : Caps) (w p : List ℕ) → Room k w p → Room k (sets w 0 (zeros (needed k))) (sets p 0 (zeros (needed_p k)))
 room_zeroed k w p r = record { caps = r.caps; words = rw length-sets r.words; bytes = rw length-sets r.bytes }
+
+-- the first j words of the free bits in column c, all free
+abbrev pub freed_to : ℕ → ℕ → ℕ → State → State
+freed_to c n zero s = s
+freed_to c n (suc j) s = poke (freed_to c n j s) c j (ones n j)

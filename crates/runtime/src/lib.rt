@@ -1,4 +1,4 @@
-// The calls of the host, exported to C but for `show`, which returns a part of the payload area.
+// The calls of the host. Crate runtime_c exports them to C, but for `show`, which returns a part of the payload area.
 #![tactic(auto)]
 
 pub mod host;

@@ -10,31 +10,21 @@ ghost use Rattle.rules.specs.Host.{ones, zeroed, stated, freed, fresh};
 ghost use Rattle.rules.specs.Story.{Meets};
 
 use pools::bits::WORD_BITS;
+use rules::refusals::Refusal;
 use sound::suffices;
 use tables::Caps;
 use tables::columns::{ACTORS, DATA_FREE, DATAS, LINKS, MAIL_FREE, MAILS, MONITORS, TIMERS};
 use tables::layout::{bytes_needed, words_needed};
 use tables::payload::zero;
+use tables::sizes::BIT_WORDS;
 use tables::words::put;
-
-// The first n words are 0.
-fn zero_words(t: &mut [u64], n: usize)
-    requires { n ≤ length t.old }
-    ensures { t.new ≡ sets t.old 0 (replicate n 0) }
-{
-    let mut i = 0;
-    while i < n {
-        t[i] = 0;
-        i += 1;
-    }
-}
 
 // Every needed word and byte is 0.
 fn clear(t: &mut [u64], p: &mut [u8], k: Caps)
     requires { Room k t.old p.old }
     ensures { Makes k (zeroed k) t.old p.old t.new p.new }
 {
-    zero_words(t, words_needed(k));
+    t[..words_needed(k)].fill(0);
     zero(p, 0, bytes_needed(k));
 }
 
@@ -56,13 +46,9 @@ fn ones_at(n: usize, j: usize) -> u64
     requires { j < BIT-WORDS }
     ensures { result ≡ ones n j }
 {
-    let from = WORD_BITS * j;
-    if n <= from {
-        return 0;
-    }
-    let m = n - from;
+    let m = n.saturating_sub(WORD_BITS * j);
     if WORD_BITS <= m {
-        return 0xffff_ffff_ffff_ffff;
+        return u64::MAX;
     }
     (1 << m) - 1
 }
@@ -72,10 +58,9 @@ fn free_all(t: &mut [u64], p: &[u8], k: Caps, c: usize, n: usize)
     requires { Room k t.old p.now × (c < REST) }
     ensures { Makes k (freed c n) t.old p.now t.new p.now }
 {
-    put(t, p, k, c, 0, ones_at(n, 0));
-    put(t, p, k, c, 1, ones_at(n, 1));
-    put(t, p, k, c, 2, ones_at(n, 2));
-    put(t, p, k, c, 3, ones_at(n, 3));
+    for j in 0..BIT_WORDS {
+        put(t, p, k, c, j as u64, ones_at(n, j));
+    }
 }
 
 // A fresh runtime.
@@ -90,8 +75,7 @@ pub fn begin(t: &mut [u64], p: &mut [u8], k: Caps)
 }
 
 // A fresh runtime of these capacities in the two buffers, whatever they held. 1: capacities out of range, or a buffer too short.
-#[unsafe(no_mangle)]
-pub extern "C" fn fg_start(
+pub fn fg_start(
     t: &mut [u64],
     p: &mut [u8],
     actors: u64,
@@ -111,9 +95,9 @@ pub extern "C" fn fg_start(
         monitors: monitors as usize,
         timers: timers as usize,
     };
-    if suffices(t, p, k) {
-        begin(t, p, k);
-        return 0;
+    if !suffices(t, p, k) {
+        return Refusal::Malformed.into();
     }
-    1
+    begin(t, p, k);
+    0
 }

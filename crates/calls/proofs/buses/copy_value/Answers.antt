@@ -1,9 +1,14 @@
 -- The bytes are those of the payload.
-use Rattle.calls.proofs.BusLaws.{value_copied}
+use mathlib.Core.Path.{refl, ◌∙◌}
+use native.Mathlib.Omega.{arith}
+use lib.ListN.{length}
+use Rattle.calls.proofs.BusLaws.{copied}
 use Rattle.calls.proofs.buses.copy_value.Goals as goal
 
 pub returns : goal.returns
 returns c =
     let a = c.args in
-    let h = c.requires.1 in
-    rw c.copy.ensures (value_copied a.k a.t.now a.p.now a.d a.bytes a.out.now c.requires.0 h.0 h.1 h.2 h.3)
+    let v = c.payload-value.ensures in
+    let m = c.payload-value.result.now in
+    let q = copied m a.out.now (length m) refl (omega (arith, v.2, c.requires.1.2)) in
+    rw c.copy.ensures (q.0 ∙ v.0, q.1)

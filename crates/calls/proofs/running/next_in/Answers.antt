@@ -30,7 +30,7 @@ pub returns-then-j-get : goal.returns-then-j-get
 unfolding ruled
 returns-then-j-get c =
     simp (nobody c.get.ensures c.if-get-ne0.false, below c.first_head-j.ensures c.get-2.ensures c.if-j-get.true)
-    (rw (c.get-a.ensures, c.first_head-j.ensures) at c.take_turn.ensures)
+    (rw (c.take_turn.ensures.0, c.get-a.ensures, c.first_head-j.ensures), rw (c.get-a.ensures, c.first_head-j.ensures) at c.take_turn.ensures.1)
 
 pub returns : goal.returns
 unfolding ruled

@@ -6,4 +6,4 @@ use Rattle.calls.proofs.running.report_in.Goals as goal
 pub returns : goal.returns
 unfolding ruled
 returns c =
-    (rw (c.count_slots-timers.ensures, c.count_slots-monitors.ensures, c.count_unused-links.ensures, c.count_bits-datas.ensures, c.count_bits-mails.ensures, c.count_slots-actors.ensures), record { is = refl; room = c.requires.room })
+    (rw (c.count_slots-3.ensures, c.count_slots-2.ensures, c.count_unused.ensures, c.count_bits-2.ensures, c.count_bits.ensures, c.count_slots.ensures), record { is = refl; room = c.requires.room })

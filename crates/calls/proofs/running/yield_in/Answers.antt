@@ -1,17 +1,20 @@
 -- Somebody runs, or not.
 use mathlib.Core.Path.{refl}
 use native.Mathlib.Omega.{arith}
+use Rattle.std.proofs.lemmas.Result.{err_from_is_err_and}
 use Rattle.tables.specs.State.{with_col, poke}
 use Rattle.rules.specs.Calls.{ruled}
 use Rattle.rules.proofs.Kept.Ready.{good_ready}
 use Rattle.rules.proofs.Kept.Clauses.{queue-fits}
-use Rattle.calls.proofs.CallLaws.{nobody, somebody}
+use Rattle.calls.proofs.CallLaws.{finds, stops}
 use Rattle.calls.proofs.running.yield_in.Goals as goal
 
-pub returns-then-r-eq0 : goal.returns-then-r-eq0
+pub returns-in_err-me : goal.returns-in_err-me
 unfolding ruled
-returns-then-r-eq0 c =
-    simp (nobody c.get-r.ensures c.if-r-eq0.true) (refl, record { is = refl; room = c.requires.room })
+returns-in_err-me c =
+    let p = err_from_is_err_and c.from_residual.result c.from_residual.ensures.1 in
+    let h = stops _ _ _ c.in_err-me.ensures in
+    simp (h.0, p.1, p.2, h.1) (refl, record { is = refl; room = c.requires.room })
 
 pub ready-requires : goal.ready-requires
 unfolding with_col poke
@@ -23,5 +26,5 @@ ready-requires c =
 pub returns : goal.returns
 unfolding ruled
 returns c =
-    simp (somebody c.get-r.ensures c.if-r-eq0.false)
-    (refl, record { is = rw (c.ready.ensures.is, c.halt.ensures.is, c.get-r.ensures); room = c.ready.ensures.room })
+    let h = finds _ _ _ c.in_ok-me.ensures in
+    simp h.0 (refl, record { is = rw (c.ready.ensures.is, c.halt.ensures.is, h.1); room = c.ready.ensures.room })

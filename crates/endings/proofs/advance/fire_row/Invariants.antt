@@ -1,4 +1,4 @@
--- What is left to fire of the present state is what was to fire of the first.
+-- What is left to fire of the present state is what was to fire of the first, and waits in what is left of the row.
 use Prim.Native.Nat.{◌≤◌, ◌-◌, ◌+◌}
 use mathlib.Core.Path.{◌≡◌}
 use lib.ListN.{length}
@@ -8,8 +8,13 @@ use Rattle.endings.specs.Asked.{Raised}
 use Rattle.endings.specs.Order.{Waiting}
 use Rattle.endings.proofs.advance.fire_row.Given as goal
 
-abbrev pub invariant-loop-left : goal.invariant-loop-left
-invariant-loop-left l = Room l.k l.t l.p × Raised l.k (view l.k l.t l.p) × Waiting l.k (view l.k l.t l.p) l.left l.row × (l.count + l.left ≤ l.k.timers) × (fire_all l.k (l.k.timers - l.count) (fired l.count (view l.k l.t l.p)) ≡ fire_all l.k l.k.timers (fired 0 (view l.k l.initial.t l.initial.p))) × (length l.t ≡ length l.initial.t) × (length l.p ≡ length l.initial.p)
-
-abbrev pub decreases-loop-left : goal.decreases-loop-left
-decreases-loop-left l = l.left
+abbrev pub invariant-loop-i : goal.invariant-loop-i
+invariant-loop-i l = let row = l.i-iterator.iter.rest.now in
+    let s = view l.k l.t l.p in
+    record {
+      room : Room l.k l.t l.p;
+      raised : Raised l.k s;
+      waiting : Waiting l.k s (length row) row;
+      few : l.count + length row ≤ l.k.timers;
+      same : fire_all l.k (l.k.timers - l.count) (fired l.count s) ≡ fire_all l.k l.k.timers (fired 0 (view l.k l.initial.t l.initial.p));
+    }

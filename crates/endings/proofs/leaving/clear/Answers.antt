@@ -1,5 +1,4 @@
 -- The hand first, then the mailbox.
-use mathlib.Core.Path.{refl}
 use Rattle.tables.specs.State.{view}
 use Rattle.rules.proofs.Kept.Messages.{let_go-arrived_lem}
 use Rattle.endings.proofs.leaving.clear.Goals as goal
@@ -15,4 +14,4 @@ returns c =
     let a = c.args in
     let d = c.drop_all.ensures in
     let e = let_go-arrived_lem (view a.k a.t.now a.p.now) a.a in
-    record { sent = refl; lost = refl; left = record { is = rw (d.is, c.let_go.ensures.is, e); room = d.room } }
+    record { is = rw (d.is, c.let_go.ensures.is, e); room = d.room }

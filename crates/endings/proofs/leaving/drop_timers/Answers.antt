@@ -1,24 +1,31 @@
--- The state is that with the timers below i dropped.
+-- The timer is the slot's, or not.
+use Prim.Native.Nat.{suc}
 use mathlib.Core.Path.{◌≡◌, refl}
+use mathlib.Core.Bool.{true, false}
 use native.Mathlib.Omega.{arith}
-use Rattle.tables.specs.State.{view}
+use lib.Dec.{eqb}
+use borrow.Author.Tests.{eq-eqb, ne_eqb}
+use Rattle.tables.specs.Columns.{TIMER-OWNER}
+use Rattle.tables.specs.State.{at, view}
 use Rattle.rules.specs.Aged.{end_own}
 use Rattle.endings.proofs.EndingLaws.{timers-step}
-use borrow.Author.Rules.{rules}
 use Rattle.endings.proofs.leaving.drop_timers.Goals as goal
+use Rattle.endings.proofs.leaving.drop_timers.Goals.{then-get-a, else-get-a}
 
 pub loop-i-init : goal.loop-i-init
 unfolding end_own
-loop-i-init c = (c.requires.0, refl, omega arith, refl, refl)
+loop-i-init c = (c.requires.0, refl)
 
 pub loop-i-preserved : goal.loop-i-preserved
 loop-i-preserved c = let a = c.args in
     let l = c.loop-i in
-    let d = c.drop_timer in
-    let s = view a.k a.t.now a.p.now in
-    (d.ensures.room, l.invariant.1, omega arith, rw (timers-step a.a l.i s, ← l.invariant.3) d.ensures.is, search rules)
-
-pub returns : goal.returns
-returns c = let l = c.loop-i in
-    let e : l.i ≡ c.args.k.timers = omega arith in
-    record { sent = refl; lost = refl; left = record { is = rw e at l.invariant.3; room = l.invariant.0 } }
+    let s = view a.k l.t a.p.now in
+    elim c.if-get-a.branch [
+      | then-get-a w ↦
+          let q : eqb (at s TIMER-OWNER l.i) (suc a.a) ≡ true = eq-eqb _ _ (omega (arith, c.get.ensures, w.if-get-a.true)) in
+          let d = w.disarm.ensures in
+          rw w.t-is (d.room, rw (timers-step a.a l.i (view a.k a.t.now a.p.now), ← l.invariant.1, q) d.is)
+      | else-get-a w ↦
+          let q : eqb (at s TIMER-OWNER l.i) (suc a.a) ≡ false = ne_eqb _ _ (λ z. omega (arith, c.get.ensures, w.if-get-a.false)) in
+          rw w.t-is (l.invariant.0, rw (timers-step a.a l.i (view a.k a.t.now a.p.now), ← l.invariant.1, q) refl)
+    ]

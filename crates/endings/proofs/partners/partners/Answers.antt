@@ -10,6 +10,3 @@ partners_in-requires c =
     let a = c.args in
     let f = view-full a.k a.t.now a.p.now c.requires.words in
     (c.requires.caps.few_links, rw c.column.ensures (omega (arith, f LINK-ONE (lit< tt))), rw c.column-2.ensures (omega (arith, f LINK-TWO (lit< tt))))
-
-pub returns : goal.returns
-returns c = rw (c.column.ensures, c.column-2.ensures) at c.partners_in.ensures

@@ -1,5 +1,4 @@
 -- The row has the links below e.
-use Prim.Native.Nat.{◌≤◌, ◌-◌}
 use mathlib.Core.Path.{◌≡◌}
 use lib.ListN.{length}
 use Rattle.tables.specs.Limits.{MOST-ACTORS}
@@ -7,7 +6,4 @@ use Rattle.endings.specs.Partners.{Partners}
 use Rattle.endings.proofs.partners.partners_in.Given as goal
 
 abbrev pub invariant-loop-e : goal.invariant-loop-e
-invariant-loop-e l = (l.e ≤ l.n) × (length l.row ≡ MOST-ACTORS) × Partners l.one l.two l.x l.e l.row
-
-abbrev pub decreases-loop-e : goal.decreases-loop-e
-decreases-loop-e l = l.n - l.e
+invariant-loop-e l = record { long : length l.row ≡ MOST-ACTORS; has : Partners l.one l.two l.x l.e l.row }

@@ -1,17 +1,15 @@
--- `runtime::host::fg_after` meets its contract: the test said yes, and the call followed its rule; or no, and nothing changed.
+-- The call follows its rule, or is refused.
 use Rattle.ledger.specs.Call.Op.{after}
-use Rattle.rules.proofs.Stories.Host.{called_ready, meets_no, meets_yes}
+use Rattle.runtime.proofs.HostLaws.{ready, stayed, went}
 use Rattle.runtime.proofs.host.fg_after.Goals as goal
 
 pub after_in-requires : goal.after_in-requires
-after_in-requires c = called_ready _ _ c.sound.ensures c.if-sound.true c.caps_of.ensures
+after_in-requires c = ready c.args.t.now c.args.p.now c.in-Ok.ensures
 
-pub returns-then-sound : goal.returns-then-sound
-returns-then-sound c =
-    let a = c.args in
-    meets_yes (after a.delay) _ _ c.sound.ensures c.if-sound.true c.caps_of.ensures c.after_in.ensures
+pub returns-in-Ok : goal.returns-in-Ok
+returns-in-Ok c =
+    rw c.from.ensures (went c.args.t.now c.args.p.now c.in-Ok.ensures (after c.args.delay) c.after_in.ensures)
 
-pub returns : goal.returns
-returns c =
-    let a = c.args in
-    meets_no (after a.delay) _ _ c.sound.ensures c.if-sound.false
+pub returns-in-Err : goal.returns-in-Err
+returns-in-Err c =
+    rw c.from-in-Err.ensures (stayed c.args.t.now c.args.p.now c.in-Err.ensures (after c.args.delay))

@@ -1,13 +1,15 @@
--- `runtime::host::fg_monitor` meets its contract: the test said yes, and the call followed its rule; or no, and nothing changed.
+-- The call follows its rule, or is refused.
 use Rattle.ledger.specs.Call.Op.{monitor}
-use Rattle.rules.proofs.Stories.Host.{called_ready, meets_no, meets_yes}
+use Rattle.runtime.proofs.HostLaws.{ready, stayed, went}
 use Rattle.runtime.proofs.host.fg_monitor.Goals as goal
 
 pub monitor_in-requires : goal.monitor_in-requires
-monitor_in-requires c = called_ready _ _ c.sound.ensures c.if-sound.true c.caps_of.ensures
+monitor_in-requires c = ready c.args.t.now c.args.p.now c.in-Ok.ensures
 
-pub returns-then-sound : goal.returns-then-sound
-returns-then-sound c = meets_yes (monitor _) _ _ c.sound.ensures c.if-sound.true c.caps_of.ensures c.monitor_in.ensures
+pub returns-in-Ok : goal.returns-in-Ok
+returns-in-Ok c =
+    rw c.from.ensures (went c.args.t.now c.args.p.now c.in-Ok.ensures (monitor c.args.target) c.monitor_in.ensures)
 
-pub returns : goal.returns
-returns c = meets_no (monitor _) _ _ c.sound.ensures c.if-sound.false
+pub returns-in-Err : goal.returns-in-Err
+returns-in-Err c =
+    rw c.from-in-Err.ensures (stayed c.args.t.now c.args.p.now c.in-Err.ensures (monitor c.args.target))

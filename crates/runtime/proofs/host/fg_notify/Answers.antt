@@ -1,17 +1,15 @@
--- `runtime::host::fg_notify` meets its contract: the test said yes, and the call followed its rule; or no, and nothing changed.
+-- The call follows its rule, or is refused.
 use Rattle.ledger.specs.Call.Op.{notify}
-use Rattle.rules.proofs.Stories.Host.{called_ready, meets_no, meets_yes}
+use Rattle.runtime.proofs.HostLaws.{ready, stayed, went}
 use Rattle.runtime.proofs.host.fg_notify.Goals as goal
 
 pub notify_in-requires : goal.notify_in-requires
-notify_in-requires c = called_ready _ _ c.sound.ensures c.if-sound.true c.caps_of.ensures
+notify_in-requires c = ready c.args.t.now c.args.p.now c.in-Ok.ensures
 
-pub returns-then-sound : goal.returns-then-sound
-returns-then-sound c =
-    let a = c.args in
-    meets_yes (notify a.target a.tag a.payload.now) _ _ c.sound.ensures c.if-sound.true c.caps_of.ensures c.notify_in.ensures
+pub returns-in-Ok : goal.returns-in-Ok
+returns-in-Ok c =
+    rw c.done.ensures (went c.args.t.now c.args.p.now c.in-Ok.ensures (notify c.args.target c.args.tag c.args.payload.now) c.notify_in.ensures)
 
-pub returns : goal.returns
-returns c =
-    let a = c.args in
-    meets_no (notify a.target a.tag a.payload.now) _ _ c.sound.ensures c.if-sound.false
+pub returns-in-Err : goal.returns-in-Err
+returns-in-Err c =
+    rw c.done-in-Err.ensures (stayed c.args.t.now c.args.p.now c.in-Err.ensures (notify c.args.target c.args.tag c.args.payload.now))

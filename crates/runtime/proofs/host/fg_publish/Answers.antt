@@ -1,17 +1,15 @@
--- `runtime::host::fg_publish` meets its contract: the test said yes, and the call followed its rule; or no, and nothing changed.
+-- The call follows its rule, or is refused.
 use Rattle.ledger.specs.Call.Op.{publish}
-use Rattle.rules.proofs.Stories.Host.{called_ready, meets_no, meets_yes}
+use Rattle.runtime.proofs.HostLaws.{ready, stayed, went}
 use Rattle.runtime.proofs.host.fg_publish.Goals as goal
 
 pub publish_in-requires : goal.publish_in-requires
-publish_in-requires c = called_ready _ _ c.sound.ensures c.if-sound.true c.caps_of.ensures
+publish_in-requires c = ready c.args.t.now c.args.p.now c.in-Ok.ensures
 
-pub returns-then-sound : goal.returns-then-sound
-returns-then-sound c =
-    let a = c.args in
-    meets_yes (publish a.bus a.payload.now) _ _ c.sound.ensures c.if-sound.true c.caps_of.ensures c.publish_in.ensures
+pub returns-in-Ok : goal.returns-in-Ok
+returns-in-Ok c =
+    rw c.done.ensures (went c.args.t.now c.args.p.now c.in-Ok.ensures (publish c.args.bus c.args.payload.now) c.publish_in.ensures)
 
-pub returns : goal.returns
-returns c =
-    let a = c.args in
-    meets_no (publish a.bus a.payload.now) _ _ c.sound.ensures c.if-sound.false
+pub returns-in-Err : goal.returns-in-Err
+returns-in-Err c =
+    rw c.done-in-Err.ensures (stayed c.args.t.now c.args.p.now c.in-Err.ensures (publish c.args.bus c.args.payload.now))

@@ -1,13 +1,15 @@
--- `runtime::host::fg_unlink` meets its contract: the test said yes, and the call followed its rule; or no, and nothing changed.
+-- The call follows its rule, or is refused.
 use Rattle.ledger.specs.Call.Op.{unlink}
-use Rattle.rules.proofs.Stories.Host.{called_ready, meets_no, meets_yes}
+use Rattle.runtime.proofs.HostLaws.{ready, stayed, went}
 use Rattle.runtime.proofs.host.fg_unlink.Goals as goal
 
 pub unlink_in-requires : goal.unlink_in-requires
-unlink_in-requires c = called_ready _ _ c.sound.ensures c.if-sound.true c.caps_of.ensures
+unlink_in-requires c = ready c.args.t.now c.args.p.now c.in-Ok.ensures
 
-pub returns-then-sound : goal.returns-then-sound
-returns-then-sound c = meets_yes (unlink _) _ _ c.sound.ensures c.if-sound.true c.caps_of.ensures c.unlink_in.ensures
+pub returns-in-Ok : goal.returns-in-Ok
+returns-in-Ok c =
+    rw c.done.ensures (went c.args.t.now c.args.p.now c.in-Ok.ensures (unlink c.args.partner) c.unlink_in.ensures)
 
-pub returns : goal.returns
-returns c = meets_no (unlink _) _ _ c.sound.ensures c.if-sound.false
+pub returns-in-Err : goal.returns-in-Err
+returns-in-Err c =
+    rw c.done-in-Err.ensures (stayed c.args.t.now c.args.p.now c.in-Err.ensures (unlink c.args.partner))

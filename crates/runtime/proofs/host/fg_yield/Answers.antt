@@ -1,13 +1,15 @@
--- `runtime::host::fg_yield` meets its contract: the test said yes, and the call followed its rule; or no, and nothing changed.
+-- The call follows its rule, or is refused.
 use Rattle.ledger.specs.Call.Op.{yield}
-use Rattle.rules.proofs.Stories.Host.{called_ready, meets_no, meets_yes}
+use Rattle.runtime.proofs.HostLaws.{ready, stayed, went}
 use Rattle.runtime.proofs.host.fg_yield.Goals as goal
 
 pub yield_in-requires : goal.yield_in-requires
-yield_in-requires c = called_ready _ _ c.sound.ensures c.if-sound.true c.caps_of.ensures
+yield_in-requires c = ready c.args.t.now c.args.p.now c.in-Ok.ensures
 
-pub returns-then-sound : goal.returns-then-sound
-returns-then-sound c = meets_yes yield _ _ c.sound.ensures c.if-sound.true c.caps_of.ensures c.yield_in.ensures
+pub returns-in-Ok : goal.returns-in-Ok
+returns-in-Ok c =
+    rw c.done.ensures (went c.args.t.now c.args.p.now c.in-Ok.ensures yield c.yield_in.ensures)
 
-pub returns : goal.returns
-returns c = meets_no yield _ _ c.sound.ensures c.if-sound.false
+pub returns-in-Err : goal.returns-in-Err
+returns-in-Err c =
+    rw c.done-in-Err.ensures (stayed c.args.t.now c.args.p.now c.in-Err.ensures yield)
