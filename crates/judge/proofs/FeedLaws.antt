@@ -1,5 +1,5 @@
 -- A piece of a trace, record by record.
-use Prim.Native.Nat.{ℕ, suc, ◌+◌, ◌-◌, ◌*◌, ◌<◌, ◌≤◌}
+use Prim.Native.Nat.{ℕ, suc, ◌+◌, ◌-◌, ◌<◌, ◌≤◌}
 use mathlib.Core.Path.{◌≡◌, refl, sym, ap, ◌∙◌}
 use mathlib.Core.Bool.{Bool, true, false, ◌||◌}
 use mathlib.Core.List.{List, ◌++◌, append_assoc}
@@ -9,20 +9,14 @@ use lib.ListN.{drop, length, length-drop, take, take-append-drop}
 use lib.Seq.{drop-drop, length-take-le, take-take}
 use lib.Dec.{eqb, ltb}
 use borrow.Author.Tests.{lt-ltb, ne_eqb}
-use Rattle.pools.proofs.BoolLaws.{true_false}
 use Rattle.records.specs.Bytes.{field, of_le}
-use Rattle.tables.specs.Limits.{ENTRY-BYTES, MOST-DATAS, WORDS-MOST}
 use Rattle.trace.specs.Kinds.{asked}
 use Rattle.trace.specs.Verdict.{Taken, extent_of, goes_on, judged, verdict_from}
 use Rattle.trace.specs.Verdict.Verdict.{bad}
 use Rattle.trace.proofs.StepLaws.{from-whole}
-use Rattle.judge.specs.Feeding.{Bench, Comes, Judges, standing, unfinished}
+use Rattle.judge.specs.Feeding.{Bench, Comes, Going, standing, unfinished}
 use Rattle.judge.specs.Replayed.{Replayed, is_first}
 use Rattle.judge.proofs.ReplayLaws.{replayed_comes}
-
--- before the first record any two buffers will do that are long enough
-pub bench_before : (w p : List ℕ) → WORDS-MOST ≤ length w → ENTRY-BYTES * MOST-DATAS ≤ length p → Bench true w p
-bench_before w p a b = record { words = a; bytes = b; sound = λ q. absurd (true_false true refl q) }
 
 -- so far every record was right: whatever follows the piece, the verdict is that on what is left of it
 pub record Reached (n : ℕ) (w₀ p₀ bs w p : List ℕ) (count used : ℕ) : Type 0 where
@@ -88,13 +82,8 @@ module _ {n : ℕ} {w₀ p₀ bs w p : List ℕ} {count used : ℕ} (h : Reached
         }
 
     -- it is not
-    pub reached_wrong : b ≡ false → Judges n w₀ p₀ bs (record { wrong = true; count = count; used = used }) w' p'
-    reached_wrong q =
-        let c = came.wrong q in
-        record {
-          going = λ z. absurd (true_false true refl z);
-          stopped = λ z rest. onward rest ∙ ap (λ (t : Taken). goes_on t (λ s. verdict_from (suc count) s (rest_of rest)) (bad count)) c;
-        }
+    pub reached_wrong : b ≡ false → (rest : List ℕ) → verdict_from n (standing (is_first n) w₀ p₀) (bs ++ rest) ≡ bad count
+    reached_wrong q rest = onward rest ∙ ap (λ (t : Taken). goes_on t (λ s. verdict_from (suc count) s (rest_of rest)) (bad count)) (came.wrong q)
 
 -- ---- no more whole record
 or_true : (b : Bool) → b || true ≡ true
@@ -102,21 +91,17 @@ or_true true = refl
 or_true false = refl
 
 module _ {n : ℕ} {w₀ p₀ bs w p : List ℕ} {count used : ℕ} (h : Reached n w₀ p₀ bs w p count used) where
-  reached_end : unfinished (drop used bs) ≡ true → Judges n w₀ p₀ bs (record { wrong = false; count = count; used = used }) w p
-  reached_end u =
-      record {
-        going = λ z. record { part = h.part; left = u; bench = h.bench; same = h.same };
-        stopped = λ z. absurd (true_false false z refl);
-      }
+  pub reached_end : unfinished (drop used bs) ≡ true → Going n w₀ p₀ bs (record { count = count; used = used }) w p
+  reached_end u = record { part = h.part; left = u; bench = h.bench; same = h.same }
 
   -- not even its length is there
-  pub reached_none : length bs - used < 2 → Judges n w₀ p₀ bs (record { wrong = false; count = count; used = used }) w p
+  pub reached_none : length bs - used < 2 → unfinished (drop used bs) ≡ true
   reached_none l =
       let d : length (drop used bs) ≡ length bs - used = length-drop used bs in
-      reached_end (rw (lt-ltb (length (drop used bs)) 2 (omega arith)) (or_true (eqb (length (drop used bs)) 0)))
+      rw (lt-ltb (length (drop used bs)) 2 (omega arith)) (or_true (eqb (length (drop used bs)) 0))
 
   -- it is longer than what is there
-  pub reached_part : length bs < used + 2 + field 2 used bs → Judges n w₀ p₀ bs (record { wrong = false; count = count; used = used }) w p
+  pub reached_part : length bs < used + 2 + field 2 used bs → unfinished (drop used bs) ≡ true
   reached_part l =
       let d : length (drop used bs) ≡ length bs - used = length-drop used bs in
-      reached_end (rw (lt-ltb (length (drop used bs)) (extent_of (drop used bs)) (omega (arith, h.part)), or_true (ltb (length (drop used bs)) 2)) (or_true (eqb (length (drop used bs)) 0)))
+      rw (lt-ltb (length (drop used bs)) (extent_of (drop used bs)) (omega (arith, h.part)), or_true (ltb (length (drop used bs)) 2)) (or_true (eqb (length (drop used bs)) 0))

@@ -4,7 +4,6 @@ pub mod BusLaws
 pub mod CallLaws
 pub mod FeedLaws
 pub mod FormLaws
-pub mod KeepLaws
 pub mod Once
 pub mod ReplayLaws
 pub mod RunLaws

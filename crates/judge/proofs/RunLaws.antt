@@ -19,10 +19,10 @@ run-from : {n : ℕ} {w p left : List ℕ} {pieces : List (List ℕ)} {v : Verdi
 run-from {n} {w} {p} {left} (Run.whole e) h u = sym (from_none n (standing (is_first n) w p) (left ++ []) (ap length (append-nil left) ∙ e))
 run-from {n} {w} {p} {left} (Run.inside e) h u =
     sym (ap (verdict_from n (standing (is_first n) w p)) (append-nil left) ∙ from_cut n (standing (is_first n) w p) left e (ends-left left e u))
-run-from {n} {w} {p} {left} (Run.halts {piece = piece} {pieces = pieces} j q) h u =
-    sym (ap (verdict_from n (standing (is_first n) w p)) (sym (append_assoc left piece (joined pieces))) ∙ j.stopped q (joined pieces))
-run-from {n} {w} {p} {left} (Run.goes {piece = piece} {pieces = pieces} j q r) h u =
-    let g = j.going q in
+run-from {n} {w} {p} {left} (Run.halts {piece = piece} {pieces = pieces} j) h u =
+    sym (ap (verdict_from n (standing (is_first n) w p)) (sym (append_assoc left piece (joined pieces))) ∙ j.stopped (joined pieces))
+run-from {n} {w} {p} {left} (Run.goes {piece = piece} {pieces = pieces} j r) h u =
+    let g = j.going in
     run-from r g.bench g.left
     ∙ sym (g.same (joined pieces))
     ∙ ap (verdict_from n (standing (is_first n) w p)) (append_assoc left piece (joined pieces))

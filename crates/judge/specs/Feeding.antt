@@ -1,5 +1,5 @@
 -- A trace judged piece by piece: what stands in two buffers between two records, and what a piece of the trace comes to.
-use Rattle.std.specs.Prelude.{ℕ, ◌*◌, ◌≤◌, ◌≡◌, Bool, true, false, cond, ◌||◌, List, [], ◌∷◌, ◌++◌, drop, length, eqb}
+use Rattle.std.specs.Prelude.{ℕ, ◌*◌, ◌≤◌, ◌≡◌, Bool, true, false, cond, ◌||◌, List, [], ◌∷◌, ◌++◌, drop, length, eqb, Result, Ok, Err, IfOk, IfErr}
 use Rattle.tables.specs.Limits.{ENTRY-BYTES, MOST-DATAS, WORDS-MOST}
 use Rattle.tables.specs.State.{caps_of}
 use Rattle.rules.specs.Rule.{Holds}
@@ -10,6 +10,7 @@ use Rattle.trace.specs.Verdict.Stand.{before, stands}
 use Rattle.trace.specs.Verdict.Taken.{go, stop}
 use Rattle.trace.specs.Verdict.Verdict.{bad, cut, ok}
 use Rattle.judge.specs.declared.feed.Fed.{Fed}
+use Rattle.judge.specs.declared.feed.WrongRecord.{WrongRecord}
 use Rattle.judge.specs.Replayed.{is_first}
 
 -- ---- between two records
@@ -41,12 +42,12 @@ pub record Going (n : ℕ) (w p bs : List ℕ) (f : Fed) (w' p' : List ℕ) : Ty
   pub same : (rest : List ℕ) → verdict_from n (standing (is_first n) w p) (bs ++ rest) ≡ verdict_from f.count (standing (is_first f.count) w' p') (drop f.used bs ++ rest)
 
 -- or a record in it is not right: whatever follows it, the verdict is `bad` at that record
-abbrev pub Stopped : ℕ → (w p bs : List ℕ) → Fed → Type 0
-Stopped n w p bs f = (rest : List ℕ) → verdict_from n (standing (is_first n) w p) (bs ++ rest) ≡ bad f.count
+abbrev pub Stopped : ℕ → (w p bs : List ℕ) → WrongRecord → Type 0
+Stopped n w p bs e = (rest : List ℕ) → verdict_from n (standing (is_first n) w p) (bs ++ rest) ≡ bad e.0
 
-pub record Judges (n : ℕ) (w p bs : List ℕ) (f : Fed) (w' p' : List ℕ) : Type 0 where
-  pub going : f.wrong ≡ false → Going n w p bs f w' p'
-  pub stopped : f.wrong ≡ true → Stopped n w p bs f
+pub record Judges (n : ℕ) (w p bs : List ℕ) (r : Result Fed WrongRecord) (w' p' : List ℕ) : Type 0 where
+  pub going : IfOk r (λ f. Going n w p bs f w' p')
+  pub stopped : IfErr r (λ e. Stopped n w p bs e)
 
 -- ---- an input of any length, read piece by piece, as the program does: each piece is given to the judge behind what was left of the ones before
 pub data Run : (n : ℕ) (w p left : List ℕ) (pieces : List (List ℕ)) → Verdict → Type 0 where
@@ -54,9 +55,9 @@ pub data Run : (n : ℕ) (w p left : List ℕ) (pieces : List (List ℕ)) → Ve
   whole : {n : ℕ} {w p left : List ℕ} → length left ≡ 0 → Run n w p left [] (ok n)
   inside : {n : ℕ} {w p left : List ℕ} → (length left ≡ 0 → ⊥) → Run n w p left [] (cut n)
   -- a record is wrong
-  halts : {n : ℕ} {w p left piece : List ℕ} {pieces : List (List ℕ)} {f : Fed} {w' p' : List ℕ} → Judges n w p (left ++ piece) f w' p' → f.wrong ≡ true → Run n w p left (piece ∷ pieces) (bad f.count)
+  halts : {n : ℕ} {w p left piece : List ℕ} {pieces : List (List ℕ)} {e : WrongRecord} {w' p' : List ℕ} → Judges n w p (left ++ piece) (Err e) w' p' → Run n w p left (piece ∷ pieces) (bad e.0)
   -- none is, and what is not used is left
-  goes : {n : ℕ} {w p left piece : List ℕ} {pieces : List (List ℕ)} {f : Fed} {w' p' : List ℕ} {v : Verdict} → Judges n w p (left ++ piece) f w' p' → f.wrong ≡ false →
+  goes : {n : ℕ} {w p left piece : List ℕ} {pieces : List (List ℕ)} {f : Fed} {w' p' : List ℕ} {v : Verdict} → Judges n w p (left ++ piece) (Ok f) w' p' →
       Run f.count w' p' (drop f.used (left ++ piece)) pieces v → Run n w p left (piece ∷ pieces) v
 
 -- all pieces, one after the other

@@ -1,167 +1,113 @@
-// Each call made as a record asks, and the record compared with the one that the writer writes of it.
-// What is compared: the record, its kind, the numbers passed, the text (r[0..0] is none), and the numbers answered.
-ghost use Rattle.std.specs.Prelude.{◌<◌, ◌≤◌, length, replicate};
-ghost use Rattle.ledger.specs.Call.Op.{advance, after, cancel, demonitor, every, exit, link, monitor, next, notify, receive, report, show, shown, spawn, unlink, yield};
-ghost use Rattle.trace.specs.Kinds.{signed};
-ghost use Rattle.judge.specs.Replayed.{Judged};
+// Each call with several numbers, or with a payload, made as a record asks, and the record compared with the one that the writer writes of it.
+ghost use Rattle.std.specs.Prelude.{false, ◌≡◌, ◌+◌, ◌<◌, ◌≤◌, drop, length, take};
+ghost use Rattle.ledger.specs.Call.Call.{op};
+ghost use Rattle.ledger.specs.Call.Op.{read};
+ghost use Rattle.rules.specs.Host.{copy_in};
+ghost use Rattle.rules.specs.Run.{say_copy};
+ghost use Rattle.rules.specs.Story.{Meets};
+ghost use Rattle.trace.specs.Kinds.{asked};
+ghost use Rattle.judge.specs.Replayed.{OfKind, Replayed};
 
-use runtime::host::{
-    fg_advance, fg_after, fg_cancel, fg_demonitor, fg_every, fg_exit, fg_link, fg_monitor, fg_next,
-    fg_notify, fg_receive, fg_report, fg_shown, fg_spawn, fg_unlink, fg_yield,
-};
+use crate::answer::Recorded;
+use records::bytes::load64;
+use rules::Copied;
+use runtime::host::{fg_bus, fg_notify, fg_publish, fg_read, fg_receive};
 use runtime::show::show;
 use tables::limits::PAYLOAD_MOST;
-use trace::numbers::{signed, unsigned};
-use trace::writer::matches;
+use trace::kind::Kind;
+use trace::writer::{kept, matches};
 
-// ---- calls with one number
-pub fn judge_spawn(t: &mut [u64], p: &mut [u8], r: &[u8], a: u64) -> bool
-    ensures { Judged (spawn a) t.old p.old r.now result t.new p.new }
+// ---- calls with a payload
+// A payload of n bytes that stands in a record from a place on; where it was recorded by its length alone, any other that is too long stands for it.
+fn payload(r: &[u8], at: usize, n: u64) -> &[u8]
+    requires { n ≤ 252 → at + n ≤ length r.now }
+    ensures whole { n ≤ 252 → result.now ≡ take n (drop at r.now) }
+    ensures long { 252 < n → 252 < length result.now }
 {
-    let v = fg_spawn(t, p, a);
-    matches(r, 17, &[a], &r[0..0], &[v.no, v.id])
+    if n <= PAYLOAD_MOST as u64 {
+        &r[at..at + n as usize]
+    } else {
+        &[0; PAYLOAD_MOST + 1]
+    }
 }
 
-pub fn judge_after(t: &mut [u64], p: &mut [u8], r: &[u8], a: u64) -> bool
-    ensures { Judged (after a) t.old p.old r.now result t.new p.new }
+// A message.
+pub(crate) fn notify(t: &mut [u64], p: &mut [u8], r: &[u8]) -> bool
+    requires { OfKind 20 r.now }
+    ensures { Replayed (asked r.now) false t.old p.old r.now result t.new p.new }
 {
-    let v = fg_after(t, p, a);
-    matches(r, 24, &[a], &r[0..0], &[v.no, v.id])
+    let to = load64(r, 4);
+    let tag = load64(r, 12);
+    let n = load64(r, 20);
+    let m = payload(r, 28, n);
+    fg_notify(t, p, to, tag, m).is_in(r, Kind::Notify, &[to, tag, n], kept(m))
 }
 
-pub fn judge_every(t: &mut [u64], p: &mut [u8], r: &[u8], a: u64) -> bool
-    ensures { Judged (every a) t.old p.old r.now result t.new p.new }
+// What is published.
+pub(crate) fn publish(t: &mut [u64], p: &mut [u8], r: &[u8]) -> bool
+    requires { OfKind 35 r.now }
+    ensures { Replayed (asked r.now) false t.old p.old r.now result t.new p.new }
 {
-    let v = fg_every(t, p, a);
-    matches(r, 25, &[a], &r[0..0], &[v.no, v.id])
+    let bus = load64(r, 4);
+    let n = load64(r, 12);
+    let m = payload(r, 20, n);
+    fg_publish(t, p, bus, m).is_in(r, Kind::Publish, &[bus, n], kept(m))
 }
 
-pub fn judge_cancel(t: &mut [u64], p: &mut [u8], r: &[u8], a: u64) -> bool
-    ensures { Judged (cancel a) t.old p.old r.now result t.new p.new }
+// ---- calls with four numbers
+pub(crate) fn receive(t: &mut [u64], p: &mut [u8], r: &[u8]) -> bool
+    requires { OfKind 21 r.now }
+    ensures { Replayed (asked r.now) false t.old p.old r.now result t.new p.new }
 {
-    let v = fg_cancel(t, p, a);
-    matches(r, 26, &[a], &r[0..0], &[v])
+    let sender = load64(r, 4);
+    let class = load64(r, 12);
+    let tag = load64(r, 20);
+    let wait = load64(r, 28);
+    let v = fg_receive(t, p, sender, class, tag, wait.cast_signed());
+    v.is_in(r, Kind::Receive, &[sender, class, tag, wait], b"")
 }
 
-pub fn judge_link(t: &mut [u64], p: &mut [u8], r: &[u8], a: u64) -> bool
-    ensures { Judged (link a) t.old p.old r.now result t.new p.new }
+// A new bus.
+pub(crate) fn bus(t: &mut [u64], p: &mut [u8], r: &[u8]) -> bool
+    requires { OfKind 34 r.now }
+    ensures { Replayed (asked r.now) false t.old p.old r.now result t.new p.new }
 {
-    let v = fg_link(t, p, a);
-    matches(r, 27, &[a], &r[0..0], &[v])
+    let entries = load64(r, 4);
+    let subscribers = load64(r, 12);
+    let reads = load64(r, 20);
+    let age = load64(r, 28);
+    let v = fg_bus(t, p, entries, subscribers, reads, age);
+    v.is_in(r, Kind::Bus, &[entries, subscribers, reads, age], b"")
 }
 
-pub fn judge_unlink(t: &mut [u64], p: &mut [u8], r: &[u8], a: u64) -> bool
-    ensures { Judged (unlink a) t.old p.old r.now result t.new p.new }
-{
-    let v = fg_unlink(t, p, a);
-    matches(r, 28, &[a], &r[0..0], &[v])
-}
-
-pub fn judge_monitor(t: &mut [u64], p: &mut [u8], r: &[u8], a: u64) -> bool
-    ensures { Judged (monitor a) t.old p.old r.now result t.new p.new }
-{
-    let v = fg_monitor(t, p, a);
-    matches(r, 29, &[a], &r[0..0], &[v.no, v.id])
-}
-
-pub fn judge_demonitor(t: &mut [u64], p: &mut [u8], r: &[u8], a: u64) -> bool
-    ensures { Judged (demonitor a) t.old p.old r.now result t.new p.new }
-{
-    let v = fg_demonitor(t, p, a);
-    matches(r, 30, &[a], &r[0..0], &[v])
-}
-
-pub fn judge_exit(t: &mut [u64], p: &mut [u8], r: &[u8], a: u64) -> bool
-    ensures { Judged (exit a) t.old p.old r.now result t.new p.new }
-{
-    let v = fg_exit(t, p, a);
-    matches(r, 31, &[a], &r[0..0], &[v.no, v.sent, v.lost])
-}
-
-pub fn judge_advance(t: &mut [u64], p: &mut [u8], r: &[u8], a: u64) -> bool
-    ensures { Judged (advance a) t.old p.old r.now result t.new p.new }
-{
-    let v = fg_advance(t, p, a);
-    matches(r, 32, &[a], &r[0..0], &[v.no, v.fired])
-}
-
-// ---- calls with no number
-pub fn judge_yield(t: &mut [u64], p: &mut [u8], r: &[u8]) -> bool
-    ensures { Judged yield t.old p.old r.now result t.new p.new }
-{
-    let v = fg_yield(t, p);
-    matches(r, 19, &[], &r[0..0], &[v])
-}
-
-pub fn judge_shown(t: &mut [u64], p: &mut [u8], r: &[u8]) -> bool
-    ensures { Judged shown t.old p.old r.now result t.new p.new }
-{
-    let v = fg_shown(t, p);
-    matches(r, 23, &[], &r[0..0], &[v.no, v.offset, v.length])
-}
-
-pub fn judge_next(t: &mut [u64], p: &mut [u8], r: &[u8]) -> bool
-    ensures { Judged next t.old p.old r.now result t.new p.new }
-{
-    let v = fg_next(t, p);
-    let s = unsigned(v.sleep);
-    matches(r, 18, &[], &r[0..0], &[v.no, v.id, v.reason, s])
-}
-
-pub fn judge_report(t: &mut [u64], p: &mut [u8], r: &[u8]) -> bool
-    ensures { Judged report t.old p.old r.now result t.new p.new }
-{
-    let v = fg_report(t, p);
-    let f = v.free;
-    matches(
-        r,
-        33,
-        &[],
-        &r[0..0],
-        &[v.no, f[0], f[1], f[2], f[3], f[4], f[5]],
-    )
-}
-
-// ---- calls with a filter or a payload
-pub fn judge_receive(t: &mut [u64], p: &mut [u8], r: &[u8], a: u64, b: u64, c: u64, d: u64) -> bool
-    ensures { Judged (receive a b c (signed d)) t.old p.old r.now result t.new p.new }
-{
-    let v = fg_receive(t, p, a, b, c, signed(d));
-    matches(
-        r,
-        21,
-        &[a, b, c, d],
-        &r[0..0],
-        &[v.no, v.sender, v.class, v.tag, v.length],
-    )
-}
-
-// A payload that was recorded whole.
-pub fn judge_notify(t: &mut [u64], p: &mut [u8], r: &[u8], a: u64, b: u64, m: &[u8]) -> bool
-    requires { length m.now ≤ 252 }
-    ensures { Judged (notify a b m.now) t.old p.old r.now result t.new p.new }
-{
-    let v = fg_notify(t, p, a, b, m);
-    matches(r, 20, &[a, b, m.len() as u64], m, &[v])
-}
-
-// A payload that was recorded by its length alone: any other that is too long stands for it.
-pub fn judge_long(t: &mut [u64], p: &mut [u8], r: &[u8], a: u64, b: u64, n: u64) -> bool
-    requires { 252 < n }
-    ensures { Judged (notify a b (replicate n 0)) t.old p.old r.now result t.new p.new }
-{
-    let long = [0u8; PAYLOAD_MOST + 1];
-    let v = fg_notify(t, p, a, b, &long);
-    matches(r, 20, &[a, b, n], &r[0..0], &[v])
-}
-
+// ---- calls that answer bytes
 // The part that is shown: whole, or its length alone.
-pub fn judge_show(t: &[u64], p: &[u8], r: &[u8]) -> bool
-    ensures { Judged show t.now p.now r.now result t.now p.now }
+pub(crate) fn show_part(t: &[u64], p: &[u8], r: &[u8]) -> bool
+    requires { OfKind 22 r.now }
+    ensures { Replayed (asked r.now) false t.now p.now r.now result t.now p.now }
 {
     let m = show(t, p);
-    if m.len() <= PAYLOAD_MOST {
-        return matches(r, 22, &[m.len() as u64], m, &[]);
-    }
-    matches(r, 22, &[m.len() as u64], &r[0..0], &[])
+    matches(r, Kind::Show, &[m.len() as u64], kept(m), &[])
+}
+
+// A read of a bus to a slice of so many bytes: what is copied stands first in the copy. No payload is over 252 bytes, so as many are lent for any more.
+fn read_here(t: &mut [u64], p: &mut [u8], bus: u64, room: u64, copy: &mut [u8]) -> Copied
+    requires { length copy.old ≡ 252 }
+    ensures meets { Meets (op (read bus room)) t.old p.old (say_copy (copy_in result copy.new)) t.new p.new }
+    ensures short { result.length ≤ 252 }
+{
+    let n = room.min(PAYLOAD_MOST as u64) as usize;
+    fg_read(t, p, bus, &mut copy[..n])
+}
+
+pub(crate) fn read(t: &mut [u64], p: &mut [u8], r: &[u8]) -> bool
+    requires { OfKind 38 r.now }
+    ensures { Replayed (asked r.now) false t.old p.old r.now result t.new p.new }
+{
+    let bus = load64(r, 4);
+    let room = load64(r, 12);
+    let mut copy = [0u8; PAYLOAD_MOST];
+    let v = read_here(t, p, bus, room, &mut copy);
+    let text = &copy[..v.length as usize];
+    matches(r, Kind::Read, &[bus, room, v.no, v.length], text, &[])
 }

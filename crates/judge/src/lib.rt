@@ -1,7 +1,7 @@
 // A trace judged, record by record, on two buffers.
 #![tactic(auto)]
 
-pub mod buses;
+pub mod answer;
 pub mod each;
 pub mod feed;
 pub mod forms;

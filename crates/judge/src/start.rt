@@ -2,14 +2,16 @@
 ghost use Rattle.std.specs.Prelude.{◌≡◌, ◌≤◌, length};
 ghost use Rattle.judge.specs.Replayed.{Began, Begun, asks_for, sizes_of};
 ghost use Rattle.records.specs.Bytes.{field};
+ghost use Rattle.rules.specs.Story.{caps_from};
 ghost use Rattle.trace.specs.Verdict.{can_begin};
 
+use crate::answer::Recorded;
 use records::bytes::load64;
 use runtime::start::fg_start;
 use sound::ranged;
 use tables::Caps;
 use tables::layout::{bytes_needed, words_needed};
-use trace::writer::matches;
+use trace::kind::Kind;
 
 // What the record of a start asks for: the lengths of its buffers, and the capacities.
 #[derive(Clone, Copy)]
@@ -22,6 +24,22 @@ pub struct Wanted {
     pub links: u64,
     pub monitors: u64,
     pub timers: u64,
+}
+
+// As capacities.
+impl From<Wanted> for Caps {
+    ghost from_gives = { λ s k. k ≡ caps_from (sizes_of s) };
+
+    fn from(s: Wanted) -> Caps {
+        Caps {
+            actors: s.actors as usize,
+            mails: s.mails as usize,
+            datas: s.datas as usize,
+            links: s.links as usize,
+            monitors: s.monitors as usize,
+            timers: s.timers as usize,
+        }
+    }
 }
 
 fn read_start(r: &[u8]) -> Wanted
@@ -54,15 +72,7 @@ fn can_begin(words: u64, bytes: u64, k: Caps) -> bool
 fn begin(t: &mut [u64], p: &mut [u8], s: Wanted) -> u64
     ensures { Began s.words s.bytes (sizes_of s) t.old p.old result t.new p.new }
 {
-    let k = Caps {
-        actors: s.actors as usize,
-        mails: s.mails as usize,
-        datas: s.datas as usize,
-        links: s.links as usize,
-        monitors: s.monitors as usize,
-        timers: s.timers as usize,
-    };
-    if can_begin(s.words, s.bytes, k) {
+    if can_begin(s.words, s.bytes, Caps::from(s)) {
         return fg_start(
             t, p, s.actors, s.mails, s.datas, s.links, s.monitors, s.timers,
         );
@@ -80,8 +90,8 @@ pub fn judge_start(t: &mut [u64], p: &mut [u8], r: &[u8], first: bool) -> bool
         s.words, s.bytes, s.actors, s.mails, s.datas, s.links, s.monitors, s.timers,
     ];
     let v = begin(t, p, s);
-    if first & (v != 0) {
+    if first && v != 0 {
         return false;
     }
-    matches(r, 16, &front, &r[0..0], &[v])
+    v.is_in(r, Kind::Start, &front, b"")
 }

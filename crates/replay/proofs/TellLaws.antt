@@ -8,6 +8,7 @@ use Rattle.trace.specs.Verdict.Verdict.{bad, cut, ok}
 use Rattle.trace.proofs.StepLaws.{from_cut, from_none}
 use Rattle.std.specs.Io.KnownBytes.{Appends, IsAtEnd}
 use Rattle.judge.specs.declared.feed.Fed.{Fed}
+use Rattle.judge.specs.declared.feed.WrongRecord.{WrongRecord}
 use Rattle.judge.specs.Feeding.{Going, Stopped, standing, unfinished}
 use Rattle.judge.specs.Replayed.{is_first}
 use Rattle.replay.specs.Said.{ReadsOn, Tells, end_of, line_of}
@@ -101,8 +102,8 @@ follows-few bs rest n pieces w p hand f =
     omega arith
 
 -- a record was not right
-pub follows-stopped : (bs rest : List ℕ) (n pieces : ℕ) (w p hand : List ℕ) (f : Fed) → Follows bs rest n pieces w p hand → Stopped n w p hand f → verdict bs ≡ bad f.count
-follows-stopped bs rest n pieces w p hand f h s = h.same ∙ s rest
+pub follows-stopped : (bs rest : List ℕ) (n pieces : ℕ) (w p hand : List ℕ) (e : WrongRecord) → Follows bs rest n pieces w p hand → Stopped n w p hand e → verdict bs ≡ bad e.0
+follows-stopped bs rest n pieces w p hand e h s = h.same ∙ s rest
 
 -- the input has ended
 ends-left : (l : List ℕ) → (length l ≡ 0 → ⊥) → unfinished l ≡ true → ends l ≡ true
@@ -124,8 +125,8 @@ pub OnOk-map : {X E : Type 0} (r : Result X E) {P Q : Type 0} → (P → Q) → 
 OnOk-map (Ok x) f h = f h
 OnOk-map (Err e) f h = h
 
-pub tells-stopped : (o m out out' : Option (List ℕ)) (n pieces : ℕ) (w p hand : List ℕ) (f : Fed) → FollowsOn o m n pieces w p hand → Stopped n w p hand f →
-    Appends out out' (line_of (bad f.count)) → Tells o out out'
+pub tells-stopped : (o m out out' : Option (List ℕ)) (n pieces : ℕ) (w p hand : List ℕ) (e : WrongRecord) → FollowsOn o m n pieces w p hand → Stopped n w p hand e →
+    Appends out out' (line_of (bad e.0)) → Tells o out out'
 tells-stopped None m out out' n pieces w p hand f h s a = tt
 tells-stopped (Some bs) None out out' n pieces w p hand f h s a = absurd h
 tells-stopped (Some bs) (Some rest) out out' n pieces w p hand f h s a = λ few. subst (λ v. Appends out out' (line_of v)) (sym (follows-stopped bs rest n pieces w p hand f h s)) a

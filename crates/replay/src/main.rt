@@ -1,14 +1,14 @@
 // Replays a trace from standard input, whatever its length, in fixed memory, and writes one line: `ok N`, `bad N` or `cut N`.
 #![tactic(auto)]
 
-ghost use Rattle.std.specs.Prelude.{true, ◌+◌, ◌≡◌, ◌≤◌, ◌<◌, length, take, IfOk, OnOk};
+ghost use Rattle.std.specs.Prelude.{true, ◌+◌, ◌≡◌, ◌≤◌, ◌<◌, length, take, IfOk, OnOk, Some};
 ghost use Rattle.std.specs.Io.KnownBytes.{Appends, IsAtEnd};
 ghost use Rattle.judge.specs.Feeding.{Bench};
-ghost use Rattle.replay.specs.Said.{ReadsOn, Tells, end_of, line, line_of};
+ghost use Rattle.replay.specs.Said.{ReadsOn, Tells, end_of, line_of, meant, told};
 
 use judge::feed::{feed, keep};
-use std::io;
 use std::io::{Read, Write};
+use std::{fmt, io};
 use tables::limits::WORDS_MOST;
 
 // The longest record has 65,537 bytes, so a piece of this size always holds a whole one.
@@ -17,22 +17,41 @@ const PIECE: usize = 131_072;
 // More records, and more pieces, than any input has.
 const MANY: u64 = 9_000_000_000_000_000_000;
 
-// The one line.
-fn say<W: Write>(out: &mut W, word: &[u8], n: u64) -> io::Result<()>
-    ensures { OnOk result (Appends (W.contents out.old) (W.contents out.new) (line word.now n)) }
-{
-    out.write_all(word)?;
-    writeln!(out, "{n}")
+// What is said of a trace: all records are right, and how many there are; the number of one that is not; or that of one inside which the input ends.
+#[derive(Clone, Copy)]
+enum Verdict {
+    Ok(u64),
+    Bad(u64),
+    Cut(u64),
 }
 
-// The input has ended, and so many bytes of a record are left.
-fn ended<W: Write>(out: &mut W, left: usize, n: u64) -> io::Result<()>
-    ensures { OnOk result (Appends (W.contents out.old) (W.contents out.new) (line_of (end_of left n))) }
+impl fmt::Display for Verdict {
+    ghost output = { λ v. Some (told (meant v)) };
+
+    fn fmt<W: fmt::Write>(&self, f: &mut fmt::Formatter<W>) -> fmt::Result {
+        match self {
+            Verdict::Ok(n) => write!(f, "ok {n}"),
+            Verdict::Bad(n) => write!(f, "bad {n}"),
+            Verdict::Cut(n) => write!(f, "cut {n}"),
+        }
+    }
+}
+
+// The one line.
+fn say<W: Write>(out: &mut W, verdict: Verdict) -> io::Result<()>
+    ensures { OnOk result (Appends (W.contents out.old) (W.contents out.new) (line_of (meant verdict))) }
+{
+    writeln!(out, "{verdict}")
+}
+
+// The input has ended after n right records, and so many bytes of the next one are left.
+fn ended(left: usize, n: u64) -> Verdict
+    ensures { meant result ≡ end_of left n }
 {
     if left == 0 {
-        say(out, b"ok ", n)
+        Verdict::Ok(n)
     } else {
-        say(out, b"cut ", n)
+        Verdict::Cut(n)
     }
 }
 
@@ -68,23 +87,22 @@ fn run<R: Read, W: Write>(
 {
     let mut n = 0;
     let mut have = 0;
-    let mut pieces = 0;
-    while pieces < MANY {
+    for _piece in 0..MANY {
         let got = read_more(input, buf, have)?;
         if got == 0 {
-            return ended(out, have, n);
+            return say(out, ended(have, n));
         }
         if MANY < n {
-            return Ok(());
+            break;
         }
         have += got;
-        let f = feed(t, p, n, &buf[..have]);
-        n = f.count;
-        if f.wrong {
-            return say(out, b"bad ", n);
+        match feed(t, p, n, &buf[..have]) {
+            Ok(fed) => {
+                n = fed.count;
+                have = keep(buf, fed.used, have);
+            }
+            Err(wrong) => return say(out, Verdict::Bad(wrong.0)),
         }
-        have = keep(buf, f.used, have);
-        pieces += 1;
     }
     Ok(())
 }

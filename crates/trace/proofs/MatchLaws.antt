@@ -3,17 +3,18 @@ use Prim.Native.Nat.{ℕ, zero, suc, ◌+◌, ◌-◌, ◌*◌, ◌/◌, ◌%◌
 use mathlib.Core.Path.{◌≡◌, refl, sym, ap, ◌∙◌}
 use mathlib.Core.Bool.{Bool, true, false, ◌&&◌}
 use mathlib.Core.List.{List, [], ◌∷◌, ◌++◌}
-use native.Mathlib.Nat.{add-zero, pow-suc}
-use native.Mathlib.Numerals.{add-one}
+use native.Mathlib.Nat.{pow-suc}
 use native.Mathlib.Omega.{arith}
-use lib.ListN.{length, get_or, take, drop, drop_of_length-le, length-drop}
-use lib.Seq.{drop-cons, drop-drop}
+use lib.ListN.{length, get_or, take, drop, length-drop}
+use lib.Seq.{drop-drop}
 use lib.Dec.{eqb}
 use borrow.Author.Tests.{eqb-true, eq-eqb}
 use Rattle.pools.proofs.BoolLaws.{and_left, and_right, and_true, same_bool, split, true_false}
 use Rattle.records.specs.Bytes.{Bytes, field, le, of_le}
 use Rattle.records.specs.Records.{is_record}
 use Rattle.records.proofs.ByteLaws.{bytes_drop, length-le}
+use Rattle.std.proofs.lemmas.Slice.{between_to_end}
+use Rattle.std.specs.List.{enumerate_from, list_all, starts_with}
 use Rattle.trace.specs.Codec.{body, bytes, words}
 use Rattle.trace.specs.Promises.{leads}
 use Rattle.trace.specs.Kinds.{noted}
@@ -27,9 +28,12 @@ and-and : (a b c : Bool) → (a && b) && c ≡ a && (b && c)
 and-and true b c = refl
 and-and false b c = refl
 
-and-all : (a : Bool) → a ≡ a && true
-and-all true = refl
-and-all false = refl
+-- all of them hold but perhaps the last; the third does not
+pub ands_last : (i f t b : Bool) → i ≡ true → f ≡ true → t ≡ true → i && (f && (t && b)) ≡ b
+ands_last i f t b p q r = rw (p, q, r) refl
+
+pub ands_third : (i f t b : Bool) → i ≡ true → f ≡ true → t ≡ false → i && (f && (t && b)) ≡ false
+ands_third i f t b p q r = rw (p, q, r) refl
 
 -- ---- one after the other
 leads-append : (xs ys s : List ℕ) → leads (xs ++ ys) s ≡ leads xs s && leads ys (drop (length xs) s)
@@ -63,39 +67,30 @@ leads-le (suc k) x (y ∷ s) f h b =
     ap (λ (c : Bool). eqb (x % 256) y && c) (leads-le k (x / 256) s (omega (arith, pow-suc 256 k)) (omega arith) (λ i. b (suc i)))
     ∙ digit x y (of_le (take k s)) (b 0)
 
--- ---- the loop over numbers, and the one over bytes
-pub leads-first : (xs s : List ℕ) (at : ℕ) → leads xs (drop at s) ≡ leads xs (drop (at + 0) s)
-leads-first xs s at = ap (λ (k : ℕ). leads xs (drop k s)) (sym (add-zero at))
+-- ---- numbers, and a text
+-- numbers lead where each of them does, the i-th from the place at on
+pub all_lead : (s : List ℕ) (at i : ℕ) (ns : List ℕ) → at + 8 * (i + length ns) ≤ length s → Bytes s → ((j : ℕ) → get_or ns j 0 < 256 ^ 8) →
+    list_all (λ (p : ℕ × ℕ). eqb (field 8 (at + 8 * p.0) s) p.1) (enumerate_from i ns) ≡ leads (words ns) (drop (at + 8 * i) s)
+all_lead s at i [] h b f = refl
+all_lead s at i (x ∷ ns) h b f =
+    let d = drop (at + 8 * i) s in
+    let l : length d ≡ length s - (at + 8 * i) = length-drop (at + 8 * i) s in
+    let p : at + 8 * i + 8 ≡ at + 8 * (i + 1) = omega arith in
+    let n : drop (length (le 8 x)) d ≡ drop (at + 8 * (i + 1)) s = ap (λ (k : ℕ). drop k d) (length-le 8 x) ∙ drop-drop 8 (at + 8 * i) s ∙ ap (λ (k : ℕ). drop k s) p in
+    sym
+    (leads-append (le 8 x) (words ns) d
+    ∙ ap (λ (z : List ℕ). leads (le 8 x) d && leads (words ns) z) n
+    ∙ ap (λ (z : Bool). z && leads (words ns) (drop (at + 8 * (i + 1)) s)) (leads-le 8 x d (f 0) (omega arith) (bytes_drop (at + 8 * i) s b))
+    ∙ ap (λ (z : Bool). eqb (field 8 (at + 8 * i) s) x && z) (sym (all_lead s at (i + 1) ns (omega arith) b (λ j. f (suc j)))))
 
-module _ (s : List ℕ) (at i : ℕ) (ok : Bool) where
-  pub words-next : (ns : List ℕ) → i < length ns → at + 8 * length ns ≤ length s → Bytes s → get_or ns i 0 < 256 ^ 8 →
-      ok && leads (words (drop i ns)) (drop (at + 8 * i) s) ≡ (ok && eqb (field 8 (at + 8 * i) s) (get_or ns i 0)) && leads (words (drop (i + 1) ns)) (drop (at + 8 * (i + 1)) s)
-  words-next ns h g b f =
-      let x = get_or ns i 0 in
-      let d = drop (at + 8 * i) s in
-      let l : length d ≡ length s - (at + 8 * i) = length-drop (at + 8 * i) s in
-      let p : at + 8 * i + 8 ≡ at + 8 * (i + 1) = omega arith in
-      let n : drop (length (le 8 x)) d ≡ drop (at + 8 * (i + 1)) s = ap (λ (k : ℕ). drop k d) (length-le 8 x) ∙ drop-drop 8 (at + 8 * i) s ∙ ap (λ (k : ℕ). drop k s) p in
-      let w : words (drop i ns) ≡ le 8 x ++ words (drop (i + 1) ns) = rw (add-one i) (ap words (drop-cons ns i 0 h)) in
-      ap (λ (z : List ℕ). ok && leads z d) w
-      ∙ ap (λ (z : Bool). ok && z) (leads-append (le 8 x) (words (drop (i + 1) ns)) d)
-      ∙ ap (λ (z : List ℕ). ok && (leads (le 8 x) d && leads (words (drop (i + 1) ns)) z)) n
-      ∙ ap (λ (z : Bool). ok && (z && leads (words (drop (i + 1) ns)) (drop (at + 8 * (i + 1)) s))) (leads-le 8 x d f (omega arith) (bytes_drop (at + 8 * i) s b))
-      ∙ sym (and-and ok (eqb (field 8 (at + 8 * i) s) x) (leads (words (drop (i + 1) ns)) (drop (at + 8 * (i + 1)) s)))
+-- a text leads where the bytes start with it
+leads_text : (m s : List ℕ) → starts_with eqb s m ≡ leads m s
+leads_text [] s = refl
+leads_text (x ∷ m) [] = refl
+leads_text (x ∷ m) (y ∷ s) = ap (λ (b : Bool). eqb x y && b) (leads_text m s)
 
-  pub text_next : (m : List ℕ) → i < length m → at + length m ≤ length s →
-      ok && leads (drop i m) (drop (at + i) s) ≡ (ok && eqb (get_or m i 0) (get_or s (at + i) 0)) && leads (drop (i + 1) m) (drop (at + (i + 1)) s)
-  text_next m h g =
-      let e : at + suc i ≡ suc (at + i) = omega arith in
-      ap (λ (z : List ℕ). ok && leads z (drop (at + i) s)) (drop-cons m i 0 h)
-      ∙ ap (λ (z : List ℕ). ok && leads (get_or m i 0 ∷ drop (suc i) m) z) (drop-cons s (at + i) 0 (omega arith))
-      ∙ rw (add-one i, e) (sym (and-and ok (eqb (get_or m i 0) (get_or s (at + i) 0)) (leads (drop (suc i) m) (drop (suc (at + i)) s))))
-
-  pub words_over : (ns : List ℕ) → length ns ≤ i → ok ≡ ok && leads (words (drop i ns)) (drop (at + 8 * i) s)
-  words_over ns h = rw (drop_of_length-le ns h) (and-all ok)
-
-  pub text_over : (m : List ℕ) → length m ≤ i → ok ≡ ok && leads (drop i m) (drop (at + i) s)
-  text_over m h = rw (drop_of_length-le m h) (and-all ok)
+pub leads_there : (m s : List ℕ) (at : ℕ) → starts_with eqb (take (length s - at) (drop at s)) m ≡ leads m (drop at s)
+leads_there m s at = ap (λ (l : List ℕ). starts_with eqb l m) (between_to_end s at (length s) (omega arith)) ∙ leads_text m (drop at s)
 
 -- ---- a record
 -- it is the note's where its length and kind are, and its numbers and its text
@@ -133,11 +128,3 @@ module _ (kind : ℕ) (front text back r : List ℕ) (size : ℕ) where
         where
           differ : length (bytes (noted kind front text back)) ≡ length r → ⊥
           differ w = true_false (eqb (length r) (2 + size)) (eq-eqb (length r) (2 + size) (sym w ∙ length-note kind front text back ∙ omega arith)) q
-
-  -- the two answers of the comparison
-  module _ (e : size ≡ 2 + 8 * length front + length text + 8 * length back) (z : size < 256 ^ 2) (k : kind < 256 ^ 2) (b : Bytes r) (t : Bool) (f : t ≡ is_record size kind r) where
-    pub matched : t ≡ true → (x y w : Bool) → x ≡ leads (words front) (drop 4 r) → y ≡ leads text (drop (4 + 8 * length front) r) → w ≡ leads (words back) (drop (4 + 8 * length front + length text) r) → x && (y && w) ≡ same (bytes (noted kind front text back)) r
-    matched h x y w p q u = let g : is_record size kind r ≡ true = sym f ∙ h in rw (p, q, u) (sym (note-same e z k b ∙ ap (λ (c : Bool). c && there) g))
-
-    pub unmatched : t ≡ false → false ≡ same (bytes (noted kind front text back)) r
-    unmatched h = let g : is_record size kind r ≡ false = sym f ∙ h in sym (note-same e z k b ∙ ap (λ (c : Bool). c && there) g)

@@ -1,6 +1,6 @@
 -- The stores of the writer are one store of the record.
 use Prim.Native.Nat.{ℕ, ◌+◌, ◌*◌, ◌<◌, ◌≤◌}
-use mathlib.Core.Path.{◌≡◌, ◌∙◌}
+use mathlib.Core.Path.{◌≡◌, refl, sym, ◌∙◌}
 use mathlib.Core.Bool.{true, false}
 use mathlib.Core.List.{List, ◌++◌, append_assoc}
 use native.Mathlib.Omega.{arith}
@@ -8,6 +8,9 @@ use lib.ListN.{length, length-append}
 use lib.Seq.{sets}
 use lib.Dec.{leb}
 use borrow.Author.Tests.{le-leb, lt-leb}
+use borrow.Rule.Slice.PartMut.{put_mid}
+use Rattle.std.proofs.lemmas.Slice.{put_mid-paste}
+use Rattle.tables.proofs.LoopLaws.{sets_paste}
 use Rattle.records.specs.Bytes.{le}
 use Rattle.records.proofs.ByteLaws.{length-le, stored_on}
 use Rattle.trace.specs.Codec.{body, bytes, words}
@@ -15,6 +18,10 @@ use Rattle.trace.specs.Promises.{Put}
 use Rattle.trace.specs.Kinds.{noted}
 use Rattle.trace.proofs.CodecLaws.{length-bytes, length-words}
 use Rattle.trace.proofs.KindLaws.{length-body}
+
+-- what is copied to a part is stored there
+pub sets_part : (l : List ℕ) (a k : ℕ) (ys m : List ℕ) → a + k ≤ length l → ys ≡ m → length m ≡ k → put_mid a k l ys ≡ sets l a m
+sets_part l a k ys m h e n = put_mid-paste a k l ys m (length m) e n refl ∙ sym (sets_paste l a m (omega arith))
 
 module _ (kind : ℕ) (front text back : List ℕ) where
   pub length-note : length (bytes (noted kind front text back)) ≡ 4 + 8 * length front + length text + 8 * length back

@@ -9,13 +9,11 @@ ghost use Rattle.ledger.specs.Call.Op.{advance, after, bus, cancel, demonitor, e
 ghost use Rattle.trace.specs.Promises.{Put};
 ghost use Rattle.trace.specs.Kinds.{encode};
 
-use crate::numbers::unsigned;
-use crate::writer::{write, write_numbers};
-use tables::limits::PAYLOAD_MOST;
+use crate::kind::Kind;
+use crate::writer::{kept, write, write_numbers};
 
 // The lengths of both buffers and the six capacities.
-#[unsafe(no_mangle)]
-pub extern "C" fn fg_trace_start(
+pub fn fg_trace_start(
     out: &mut [u8],
     words: u64,
     bytes: u64,
@@ -39,51 +37,42 @@ pub extern "C" fn fg_trace_start(
         monitors,
         timers,
     ];
-    write_numbers(out, 16, &front, &[no])
+    write_numbers(out, Kind::Start, &front, &[no])
 }
 
-#[unsafe(no_mangle)]
-pub extern "C" fn fg_trace_spawn(out: &mut [u8], priority: u64, no: u64, id: u64) -> usize
+pub fn fg_trace_spawn(out: &mut [u8], priority: u64, no: u64, id: u64) -> usize
     ensures { Put (encode 0 0 (op (spawn priority)) (made no id)) out.old result out.new }
 {
-    write_numbers(out, 17, &[priority], &[no, id])
+    write_numbers(out, Kind::Spawn, &[priority], &[no, id])
 }
 
-#[unsafe(no_mangle)]
-pub extern "C" fn fg_trace_next(out: &mut [u8], no: u64, id: u64, reason: u64, sleep: i64) -> usize
+pub fn fg_trace_next(out: &mut [u8], no: u64, id: u64, reason: u64, sleep: i64) -> usize
     ensures { Put (encode 0 0 (op next) (turn no id reason sleep)) out.old result out.new }
 {
-    write_numbers(out, 18, &[], &[no, id, reason, unsigned(sleep)])
+    write_numbers(
+        out,
+        Kind::Next,
+        &[],
+        &[no, id, reason, sleep.cast_unsigned()],
+    )
 }
 
-#[unsafe(no_mangle)]
-pub extern "C" fn fg_trace_yield(out: &mut [u8], no: u64) -> usize
+pub fn fg_trace_yield(out: &mut [u8], no: u64) -> usize
     ensures { Put (encode 0 0 (op yield) (plain no)) out.old result out.new }
 {
-    write_numbers(out, 19, &[], &[no])
+    write_numbers(out, Kind::Yield, &[], &[no])
 }
 
 // A payload over 252 bytes by its length alone.
-#[unsafe(no_mangle)]
-pub extern "C" fn fg_trace_notify(
-    out: &mut [u8],
-    target: u64,
-    tag: u64,
-    payload: &[u8],
-    no: u64,
-) -> usize
+pub fn fg_trace_notify(out: &mut [u8], target: u64, tag: u64, payload: &[u8], no: u64) -> usize
     ensures { Put (encode 0 0 (op (notify target tag payload.now)) (plain no)) out.old result out.new }
 {
     let front = [target, tag, payload.len() as u64];
-    if payload.len() <= PAYLOAD_MOST {
-        return write(out, 20, &front, payload, &[no]);
-    }
-    write_numbers(out, 20, &front, &[no])
+    write(out, Kind::Notify, &front, kept(payload), &[no])
 }
 
 // The filter and the wait; the number, and of the message in hand its sender, class, tag and length.
-#[unsafe(no_mangle)]
-pub extern "C" fn fg_trace_receive(
+pub fn fg_trace_receive(
     out: &mut [u8],
     sender: u64,
     class: u64,
@@ -97,95 +86,85 @@ pub extern "C" fn fg_trace_receive(
 ) -> usize
     ensures { Put (encode 0 0 (op (receive sender class tag wait)) (received no from of_class of_tag length)) out.old result out.new }
 {
-    let front = [sender, class, tag, unsigned(wait)];
-    write_numbers(out, 21, &front, &[no, from, of_class, of_tag, length])
+    let front = [sender, class, tag, wait.cast_unsigned()];
+    write_numbers(
+        out,
+        Kind::Receive,
+        &front,
+        &[no, from, of_class, of_tag, length],
+    )
 }
 
 // The part that was shown, as a payload is.
-#[unsafe(no_mangle)]
-pub extern "C" fn fg_trace_show(out: &mut [u8], part: &[u8]) -> usize
+pub fn fg_trace_show(out: &mut [u8], part: &[u8]) -> usize
     ensures { Put (encode 0 0 (op show) (Answer.part part.now)) out.old result out.new }
 {
     let front = [part.len() as u64];
-    if part.len() <= PAYLOAD_MOST {
-        return write(out, 22, &front, part, &[]);
-    }
-    write_numbers(out, 22, &front, &[])
+    write(out, Kind::Show, &front, kept(part), &[])
 }
 
-#[unsafe(no_mangle)]
-pub extern "C" fn fg_trace_shown(out: &mut [u8], no: u64, offset: u64, length: u64) -> usize
+pub fn fg_trace_shown(out: &mut [u8], no: u64, offset: u64, length: u64) -> usize
     ensures { Put (encode 0 0 (op shown) (place no offset length)) out.old result out.new }
 {
-    write_numbers(out, 23, &[], &[no, offset, length])
+    write_numbers(out, Kind::Shown, &[], &[no, offset, length])
 }
 
-#[unsafe(no_mangle)]
-pub extern "C" fn fg_trace_after(out: &mut [u8], delay: u64, no: u64, id: u64) -> usize
+pub fn fg_trace_after(out: &mut [u8], delay: u64, no: u64, id: u64) -> usize
     ensures { Put (encode 0 0 (op (after delay)) (made no id)) out.old result out.new }
 {
-    write_numbers(out, 24, &[delay], &[no, id])
+    write_numbers(out, Kind::After, &[delay], &[no, id])
 }
 
-#[unsafe(no_mangle)]
-pub extern "C" fn fg_trace_every(out: &mut [u8], interval: u64, no: u64, id: u64) -> usize
+pub fn fg_trace_every(out: &mut [u8], interval: u64, no: u64, id: u64) -> usize
     ensures { Put (encode 0 0 (op (every interval)) (made no id)) out.old result out.new }
 {
-    write_numbers(out, 25, &[interval], &[no, id])
+    write_numbers(out, Kind::Every, &[interval], &[no, id])
 }
 
-#[unsafe(no_mangle)]
-pub extern "C" fn fg_trace_cancel(out: &mut [u8], id: u64, no: u64) -> usize
+pub fn fg_trace_cancel(out: &mut [u8], id: u64, no: u64) -> usize
     ensures { Put (encode 0 0 (op (cancel id)) (plain no)) out.old result out.new }
 {
-    write_numbers(out, 26, &[id], &[no])
+    write_numbers(out, Kind::Cancel, &[id], &[no])
 }
 
-#[unsafe(no_mangle)]
-pub extern "C" fn fg_trace_link(out: &mut [u8], partner: u64, no: u64) -> usize
+pub fn fg_trace_link(out: &mut [u8], partner: u64, no: u64) -> usize
     ensures { Put (encode 0 0 (op (link partner)) (plain no)) out.old result out.new }
 {
-    write_numbers(out, 27, &[partner], &[no])
+    write_numbers(out, Kind::Link, &[partner], &[no])
 }
 
-#[unsafe(no_mangle)]
-pub extern "C" fn fg_trace_unlink(out: &mut [u8], partner: u64, no: u64) -> usize
+pub fn fg_trace_unlink(out: &mut [u8], partner: u64, no: u64) -> usize
     ensures { Put (encode 0 0 (op (unlink partner)) (plain no)) out.old result out.new }
 {
-    write_numbers(out, 28, &[partner], &[no])
+    write_numbers(out, Kind::Unlink, &[partner], &[no])
 }
 
-#[unsafe(no_mangle)]
-pub extern "C" fn fg_trace_monitor(out: &mut [u8], target: u64, no: u64, id: u64) -> usize
+pub fn fg_trace_monitor(out: &mut [u8], target: u64, no: u64, id: u64) -> usize
     ensures { Put (encode 0 0 (op (monitor target)) (made no id)) out.old result out.new }
 {
-    write_numbers(out, 29, &[target], &[no, id])
+    write_numbers(out, Kind::Monitor, &[target], &[no, id])
 }
 
-#[unsafe(no_mangle)]
-pub extern "C" fn fg_trace_demonitor(out: &mut [u8], id: u64, no: u64) -> usize
+pub fn fg_trace_demonitor(out: &mut [u8], id: u64, no: u64) -> usize
     ensures { Put (encode 0 0 (op (demonitor id)) (plain no)) out.old result out.new }
 {
-    write_numbers(out, 30, &[id], &[no])
+    write_numbers(out, Kind::Demonitor, &[id], &[no])
 }
 
-#[unsafe(no_mangle)]
-pub extern "C" fn fg_trace_exit(out: &mut [u8], reason: u64, no: u64, sent: u64, lost: u64) -> usize
+pub fn fg_trace_exit(out: &mut [u8], reason: u64, no: u64, sent: u64, lost: u64) -> usize
     ensures { Put (encode 0 0 (op (exit reason)) (ended no sent lost)) out.old result out.new }
 {
-    write_numbers(out, 31, &[reason], &[no, sent, lost])
+    write_numbers(out, Kind::Exit, &[reason], &[no, sent, lost])
 }
 
-#[unsafe(no_mangle)]
-pub extern "C" fn fg_trace_advance(out: &mut [u8], micros: u64, no: u64, fired: u64) -> usize
+pub fn fg_trace_advance(out: &mut [u8], micros: u64, no: u64, fired: u64) -> usize
     ensures { Put (encode 0 0 (op (advance micros)) (advanced no fired)) out.old result out.new }
 {
-    write_numbers(out, 32, &[micros], &[no, fired])
+    write_numbers(out, Kind::Advance, &[micros], &[no, fired])
 }
 
 // The six free counts.
-#[unsafe(no_mangle)]
-pub extern "C" fn fg_trace_report(
+pub fn fg_trace_report(
     out: &mut [u8],
     no: u64,
     actors: u64,
@@ -199,15 +178,14 @@ pub extern "C" fn fg_trace_report(
 {
     write_numbers(
         out,
-        33,
+        Kind::Report,
         &[],
         &[no, actors, mailboxes, data_entries, links, monitors, timers],
     )
 }
 
 // The four settings; the number, and the bus's own.
-#[unsafe(no_mangle)]
-pub extern "C" fn fg_trace_bus(
+pub fn fg_trace_bus(
     out: &mut [u8],
     entries: u64,
     subscribers: u64,
@@ -219,43 +197,33 @@ pub extern "C" fn fg_trace_bus(
     ensures { Put (encode 0 0 (op (bus entries subscribers reads age)) (made no id)) out.old result out.new }
 {
     let front = [entries, subscribers, reads, age];
-    write_numbers(out, 34, &front, &[no, id])
+    write_numbers(out, Kind::Bus, &front, &[no, id])
 }
 
 // A payload over 252 bytes by its length alone.
-#[unsafe(no_mangle)]
-pub extern "C" fn fg_trace_publish(out: &mut [u8], bus: u64, payload: &[u8], no: u64) -> usize
+pub fn fg_trace_publish(out: &mut [u8], bus: u64, payload: &[u8], no: u64) -> usize
     ensures { Put (encode 0 0 (op (publish bus payload.now)) (plain no)) out.old result out.new }
 {
     let front = [bus, payload.len() as u64];
-    if payload.len() <= PAYLOAD_MOST {
-        return write(out, 35, &front, payload, &[no]);
-    }
-    write_numbers(out, 35, &front, &[no])
+    write(out, Kind::Publish, &front, kept(payload), &[no])
 }
 
-#[unsafe(no_mangle)]
-pub extern "C" fn fg_trace_subscribe(out: &mut [u8], bus: u64, no: u64) -> usize
+pub fn fg_trace_subscribe(out: &mut [u8], bus: u64, no: u64) -> usize
     ensures { Put (encode 0 0 (op (subscribe bus)) (plain no)) out.old result out.new }
 {
-    write_numbers(out, 36, &[bus], &[no])
+    write_numbers(out, Kind::Subscribe, &[bus], &[no])
 }
 
-#[unsafe(no_mangle)]
-pub extern "C" fn fg_trace_unsubscribe(out: &mut [u8], bus: u64, no: u64) -> usize
+pub fn fg_trace_unsubscribe(out: &mut [u8], bus: u64, no: u64) -> usize
     ensures { Put (encode 0 0 (op (unsubscribe bus)) (plain no)) out.old result out.new }
 {
-    write_numbers(out, 37, &[bus], &[no])
+    write_numbers(out, Kind::Unsubscribe, &[bus], &[no])
 }
 
 // The bus and how many bytes the lent slice has; the number, and the bytes that were copied to it, as a payload is.
-#[unsafe(no_mangle)]
-pub extern "C" fn fg_trace_read(out: &mut [u8], bus: u64, room: u64, no: u64, copy: &[u8]) -> usize
+pub fn fg_trace_read(out: &mut [u8], bus: u64, room: u64, no: u64, copy: &[u8]) -> usize
     ensures { Put (encode 0 0 (op (read bus room)) (copied no copy.now)) out.old result out.new }
 {
     let front = [bus, room, no, copy.len() as u64];
-    if copy.len() <= PAYLOAD_MOST {
-        return write(out, 38, &front, copy, &[]);
-    }
-    write_numbers(out, 38, &front, &[])
+    write(out, Kind::Read, &front, kept(copy), &[])
 }

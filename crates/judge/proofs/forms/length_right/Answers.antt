@@ -1,5 +1,6 @@
--- `judge::forms::length_right` meets its contract: the two lengths, by the form of the kind and by the header, are those of the definition.
-use mathlib.Core.Path.{sym}
+-- The two lengths, by the form of the kind and by the header, are those of the definition.
+use Rattle.std.proofs.Common.{◌∙◌, sym}
+use Rattle.std.proofs.lemmas.Bool.{ne_eqb}
 use Rattle.judge.specs.Forms.{shape_of}
 use Rattle.judge.proofs.FormLaws.{formed-not, formed-says, formed-short}
 use Rattle.judge.proofs.forms.length_right.Goals as goal
@@ -9,8 +10,9 @@ returns-then-r-fore c = rw (← c.form_of-f.ensures.form) (sym (formed-short (sh
 
 pub returns-then-r-fore-2 : goal.returns-then-r-fore-2
 returns-then-r-fore-2 c =
-    rw (← c.form_of-f.ensures.form) (sym (formed-not (shape_of c.form_of-f.result) c.args.r.now (λ e. c.if-r-fore-2.true (rw c.text_length.ensures.value e))))
+    rw (← c.form_of-f.ensures.form, c.load16.ensures) (sym (formed-says (shape_of c.form_of-f.result) c.args.r.now (rw (← c.text_length.ensures.value) c.if-r-fore-2.true)))
 
-pub returns : goal.returns
-returns c =
-    rw (← c.form_of-f.ensures.form, c.load16.ensures) (sym (formed-says (shape_of c.form_of-f.result) c.args.r.now (rw (← c.text_length.ensures.value) c.if-r-fore-2.false)))
+pub returns-else-r-fore-2 : goal.returns-else-r-fore-2
+returns-else-r-fore-2 c =
+    rw (← c.form_of-f.ensures.form)
+    (ne_eqb _ _ c.if-r-fore-2.false ∙ sym (formed-not (shape_of c.form_of-f.result) c.args.r.now (λ e. c.if-r-fore-2.false (rw c.text_length.ensures.value e))))

@@ -1,21 +1,17 @@
--- `trace::numbers::words_at` meets its contract: each turn compares one number.
-use native.Mathlib.Omega.{arith}
-use mathlib.Core.Path.{sym, ◌∙◌}
+-- All numbers are compared, each where it would stand.
+use Rattle.std.proofs.Common.{◌∙◌, ◌+◌, ◌*◌, eqb, drop, ap, rules, tests, arith}
+use Rattle.std.proofs.lemmas.Iterator.{YieldsList-from_slice}
+use Rattle.std.proofs.lemmas.Iterator.Consumers.{YieldsList-from_enumerate}
+use Rattle.std.proofs.lemmas.Iterator.Search.{all_from_yields_List}
+use Rattle.records.specs.Bytes.{field}
 use Rattle.trace.specs.Codec.{words}
-use Rattle.trace.proofs.MatchLaws.{leads-first, words-next, words_over}
+use Rattle.trace.specs.Promises.{leads}
+use Rattle.trace.proofs.MatchLaws.{all_lead}
 use Rattle.trace.proofs.numbers.words_at.Goals as goal
-
-pub loop-i-init : goal.loop-i-init
-loop-i-init c = let a = c.args in (omega arith, leads-first (words a.ns.now) a.s.now a.at)
-
-pub loop-i-preserved : goal.loop-i-preserved
-loop-i-preserved c =
-    let a = c.args in
-    let l = c.loop-i in
-    (omega arith, l.invariant.1 ∙ words-next a.s.now a.at l.i l.ok a.ns.now (omega arith) c.requires (λ i. (c.shared_slice_known-1.given i).fits) (c.shared_slice_known-2-1.given l.i).fits ∙ rw c.load64.ensures)
 
 pub returns : goal.returns
 returns c =
     let a = c.args in
-    let l = c.loop-i in
-    words_over a.s.now a.at l.i l.ok a.ns.now (omega arith) ∙ sym l.invariant.1
+    all_from_yields_List (λ p. eqb (field 8 (a.at + 8 * p.0) a.s.now) p.1) _ _ c.all.result c.all.ensures.ran (YieldsList-from_enumerate (YieldsList-from_slice a.ns.now cc) cc) (λ x b q k. search (rules, tests))
+    ∙ all_lead a.s.now a.at 0 a.ns.now (omega arith) (λ i. (c.type_inv.s i).fits) (λ i. (c.type_inv.ns i).fits)
+    ∙ ap (λ k. leads (words a.ns.now) (drop k a.s.now)) (omega arith)

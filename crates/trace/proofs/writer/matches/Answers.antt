@@ -1,27 +1,41 @@
--- `trace::writer::matches` meets its contract: the header, the numbers, the text and the numbers after it are compared one after the other, and that is the comparison of the whole.
-use native.Mathlib.Omega.{arith}
-use Rattle.records.proofs.RecordLaws.{record_room}
-use Rattle.trace.proofs.MatchLaws.{matched, unmatched}
+-- The header, the numbers, the text and the numbers after it are compared one after the other, and that is the comparison of the whole.
+use Rattle.std.proofs.Common.{◌∙◌, ◌+◌, ◌-◌, ◌*◌, length, sym, arith, tests}
+use Rattle.trace.proofs.MatchLaws.{ands_last, ands_third, leads_there, note-same}
 use Rattle.trace.proofs.writer.matches.Goals as goal
+use Rattle.trace.proofs.writer.matches.Goals.{then-is_record, else-is_record, then-words_at, else-words_at}
 
-pub words_at-requires : goal.words_at-requires
-words_at-requires c = omega (arith, record_room _ _ c.args.r.now c.is_record.ensures c.if-is_record.true)
-
-pub text_at-requires : goal.text_at-requires
-text_at-requires c = omega (arith, record_room _ _ c.args.r.now c.is_record.ensures c.if-is_record.true)
-
-pub words_at-requires-then-is_record : goal.words_at-requires-then-is_record
-words_at-requires-then-is_record c =
-    omega (arith, record_room _ _ c.args.r.now c.is_record.ensures c.if-is_record.true)
-
-pub returns-then-is_record : goal.returns-then-is_record
-returns-then-is_record c =
+pub returns-then-starts_with : goal.returns-then-starts_with
+returns-then-starts_with c =
     let a = c.args in
-    matched a.kind a.front.now a.text.now a.back.now a.r.now _ (omega arith) (omega arith) c.ranges.kind.fits (λ i. (c.shared_slice_known-1.given i).fits)
-    _ c.is_record.ensures c.if-is_record.true _ _ _ c.words_at.ensures c.text_at.ensures c.words_at-then-is_record.ensures
+    let f = 4 + 8 * length a.front.now in
+    let size = f + length a.text.now + 8 * length a.back.now - 2 in
+    let s = note-same c.from.result a.front.now a.text.now a.back.now a.r.now size (omega arith) (omega arith) c.from.type_inv (λ i. (c.type_inv.r i).fits) in
+    let t = leads_there a.text.now a.r.now f in
+    rw (← c.from.ensures)
+    (elim c.if-is_record.branch [
+      | then-is_record w ↦ elim c.if-words_at.branch [
+        | then-words_at v ↦
+            c.words_at-then-starts_with.ensures
+            ∙ sym (s ∙ ands_last _ _ _ _ (sym c.is_record.ensures ∙ w.if-is_record.true) (sym w.words_at.ensures ∙ sym w.value-is ∙ v.if-words_at.true) (sym t ∙ sym v.starts_with.ensures.value ∙ sym v.value-is ∙ c.if-starts_with.true))
+        | else-words_at v ↦ grind (arith, tests)
+      ]
+      | else-is_record w ↦ elim c.if-words_at.branch [ then-words_at v ↦ grind (arith, tests) | else-words_at v ↦ grind (arith, tests) ]
+    ])
 
-pub returns : goal.returns
-returns c =
+pub returns-else-starts_with : goal.returns-else-starts_with
+returns-else-starts_with c =
     let a = c.args in
-    unmatched a.kind a.front.now a.text.now a.back.now a.r.now _ (omega arith) (omega arith) c.ranges.kind.fits (λ i. (c.shared_slice_known-1.given i).fits)
-    _ c.is_record.ensures c.if-is_record.false
+    let f = 4 + 8 * length a.front.now in
+    let size = f + length a.text.now + 8 * length a.back.now - 2 in
+    let s = note-same c.from.result a.front.now a.text.now a.back.now a.r.now size (omega arith) (omega arith) c.from.type_inv (λ i. (c.type_inv.r i).fits) in
+    let t = leads_there a.text.now a.r.now f in
+    rw (← c.from.ensures)
+    (elim c.if-is_record.branch [
+      | then-is_record w ↦ elim c.if-words_at.branch [
+        | then-words_at v ↦
+            c.if-starts_with.false
+            ∙ sym (s ∙ ands_third _ _ _ _ (sym c.is_record.ensures ∙ w.if-is_record.true) (sym w.words_at.ensures ∙ sym w.value-is ∙ v.if-words_at.true) (sym t ∙ sym v.starts_with.ensures.value ∙ sym v.value-is ∙ c.if-starts_with.false))
+        | else-words_at v ↦ grind (arith, tests)
+      ]
+      | else-is_record w ↦ elim c.if-words_at.branch [ then-words_at v ↦ grind (arith, tests) | else-words_at v ↦ grind (arith, tests) ]
+    ])
