@@ -2,7 +2,7 @@
 #![tactic(auto)]
 
 use records::exit::fg_read_exit;
-use records::reason::fg_reason_word;
+use records::reason::Word;
 use runtime::host::{fg_exit, fg_link, fg_next, fg_receive, fg_spawn};
 use runtime::show::show;
 use runtime::start::fg_start;
@@ -13,62 +13,6 @@ use tables::limits::{
 };
 
 const CRASH: u64 = 65_533;
-
-fn end_line(rt: &impl Print) -> io::Result<()> {
-    rt.write_all(b"\n")
-}
-
-fn number(rt: &impl Print, n: u64) -> io::Result<()> {
-    rt.print(n)
-}
-
-fn number_line(rt: &impl Print, n: u64) -> io::Result<()> {
-    number(rt, n)?;
-    end_line(rt)
-}
-
-// The actor whose turn it is.
-fn turn(rt: &impl Print, t: &mut [u64], p: &mut [u8]) -> io::Result<()> {
-    let r = fg_next(t, p);
-    number_line(rt, r.id)
-}
-
-fn new_track(rt: &impl Print, t: &mut [u64], p: &mut [u8]) -> io::Result<()> {
-    let r = fg_spawn(t, p, 1);
-    number_line(rt, r.id)
-}
-
-fn crash(rt: &impl Print, t: &mut [u64], p: &mut [u8]) -> io::Result<()> {
-    let r = fg_exit(t, p, CRASH);
-    rt.write_all(b"sent ")?;
-    number(rt, r.sent)?;
-    rt.write_all(b" lost ")?;
-    number(rt, r.lost)?;
-    end_line(rt)
-}
-
-// The first bytes of a slice.
-fn first(rt: &impl Print, bytes: &[u8], len: usize) -> io::Result<()> {
-    if len <= bytes.len() {
-        rt.write_all(&bytes[0..len])?;
-    }
-    Ok(())
-}
-
-// The word of a reason.
-fn word(rt: &impl Print, reason: u16) -> io::Result<()> {
-    let w = fg_reason_word(reason);
-    let bytes = w.bytes;
-    first(rt, &bytes, w.len)
-}
-
-// The exit notice in hand: why, and who.
-fn notice(rt: &impl Print, t: &[u64], p: &[u8]) -> io::Result<()> {
-    let r = fg_read_exit(show(t, p));
-    word(rt, r.reason)?;
-    rt.write_all(b" ")?;
-    number_line(rt, r.actor)
-}
 
 // Starts the largest runtime.
 fn start_largest(t: &mut [u64], p: &mut [u8]) {
@@ -84,20 +28,24 @@ fn start_largest(t: &mut [u64], p: &mut [u8]) {
     );
 }
 
+// Two new tracks; the first one has its turn, and links the second.
 fn run(rt: &impl Print, t: &mut [u64], p: &mut [u8]) -> io::Result<()> {
     start_largest(t, p);
-    new_track(rt, t, p)?;
-    new_track(rt, t, p)?;
-    turn(rt, t, p)?;
+    println!(rt; "{}", fg_spawn(t, p, 1).id)?;
+    println!(rt; "{}", fg_spawn(t, p, 1).id)?;
+    println!(rt; "{}", fg_next(t, p).id)?;
     fg_link(t, p, 257);
     Ok(())
 }
 
+// The first one crashes; the second has its turn, and reads the exit notice: why, and who.
 fn end(rt: &impl Print, t: &mut [u64], p: &mut [u8]) -> io::Result<()> {
-    crash(rt, t, p)?;
-    turn(rt, t, p)?;
+    let exit = fg_exit(t, p, CRASH);
+    println!(rt; "sent {} lost {}", exit.sent, exit.lost)?;
+    println!(rt; "{}", fg_next(t, p).id)?;
     fg_receive(t, p, ANY_SENDER, ANY_CLASS, ANY_TAG, 0);
-    notice(rt, t, p)
+    let notice = fg_read_exit(show(t, p));
+    println!(rt; "{} {}", Word::from(notice.reason).name(), notice.actor)
 }
 
 fn main(rt: HostRuntime) -> io::Result<()> {

@@ -1,8 +1,8 @@
 // A break for each rule of soundness, on the runtime of scene.rt. Slot 0 waits, 1 runs, 2 and 3 are queued, 4 is free.
-use crate::breaks::{becomes, byte, two, word};
+use crate::breaks::Break;
+use crate::breaks::Damage::{Byte, Two, Word};
 use records::exit::EXIT_BYTES;
 use records::tick::TICK_BYTES;
-use std::io;
 use tables::columns::{
     AGE, ARRIVAL, ARRIVED, BUS_AGE, BUS_READS, BUS_SEATS, BUS_SIZE, BUSES, CLOCK, DATA_FREE,
     DEADLINE, DUE, HAND, INTERVAL, ISSUE, ISSUED, LENGTH, LINK_ONE, LINK_TWO, MAIL_DATA, MAIL_FREE,
@@ -35,344 +35,311 @@ const BOTH: u64 = 0x1_0000_0001;
 const ONE_TOO_MANY: u64 = 0x3_0000_0000;
 
 // The head: the clock, who runs, how long the lists are, the spare words.
-pub fn head(rt: &impl Print, m: u64) -> io::Result<u64> {
-    let mut n = m;
-    n = word(rt, n, b"clock past its end", CLOCK, 0, CLOCK_END + 1)?;
-    n = word(rt, n, b"running: no such slot", RUNNING, 0, 6)?;
-    n = word(rt, n, b"running: none named", RUNNING, 0, 0)?;
-    n = word(rt, n, b"running: another named", RUNNING, 0, 3)?;
-    n = word(rt, n, b"queue longer than its column", QUEUED, 0, 6)?;
-    n = word(rt, n, b"arrivals longer than their column", ARRIVED, 0, 6)?;
-    n = word(rt, n, b"row of values longer than its column", ISSUED, 0, 9)?;
-    n = word(rt, n, b"33 buses", BUSES, 0, MOST_BUSES as u64 + 1)?;
-    n = word(rt, n, b"spare word, first", SPARE, 0, 1)?;
-    n = word(rt, n, b"spare word, last", SPARE, LAST_SPARE, 1)?;
-    Ok(n)
+pub fn head() -> &'static [Break] {
+    &[
+        ("clock past its end", Word(CLOCK, 0, CLOCK_END + 1)),
+        ("running: no such slot", Word(RUNNING, 0, 6)),
+        ("running: none named", Word(RUNNING, 0, 0)),
+        ("running: another named", Word(RUNNING, 0, 3)),
+        ("queue longer than its column", Word(QUEUED, 0, 6)),
+        ("arrivals longer than their column", Word(ARRIVED, 0, 6)),
+        ("row of values longer than its column", Word(ISSUED, 0, 9)),
+        ("33 buses", Word(BUSES, 0, MOST_BUSES as u64 + 1)),
+        ("spare word, first", Word(SPARE, 0, 1)),
+        ("spare word, last", Word(SPARE, LAST_SPARE, 1)),
+    ]
 }
 
 // What an actor's words may be.
-pub fn actors(rt: &impl Print, m: u64) -> io::Result<u64> {
-    let mut n = m;
-    n = word(rt, n, b"state", STATE, 4, 4)?;
-    n = word(rt, n, b"priority", PRIORITY, 2, LEVELS)?;
-    n = word(rt, n, b"reason", REASON, 2, 3)?;
-    n = word(rt, n, b"age", AGE, 3, TOO_OLD)?;
-    n = word(rt, n, b"age 0 in use", AGE, 3, 0)?;
-    n = word(rt, n, b"hand: no such data", HAND, 3, 9)?;
-    n = word(rt, n, b"free actor with a priority", PRIORITY, 4, 1)?;
-    let given = becomes(HAND, 4, 2);
-    let taken = becomes(HAND, 1, 0);
-    n = two(rt, n, b"free actor with a hand", given, taken)?;
-    n = word(rt, n, b"reason of one that runs", REASON, 1, 1)?;
-    n = word(rt, n, b"reason of one that waits", REASON, 0, 1)?;
-    n = word(rt, n, b"two running", STATE, 4, 2)?;
-    Ok(n)
+pub fn actors() -> &'static [Break] {
+    &[
+        ("state", Word(STATE, 4, 4)),
+        ("priority", Word(PRIORITY, 2, LEVELS)),
+        ("reason", Word(REASON, 2, 3)),
+        ("age", Word(AGE, 3, TOO_OLD)),
+        ("age 0 in use", Word(AGE, 3, 0)),
+        ("hand: no such data", Word(HAND, 3, 9)),
+        ("free actor with a priority", Word(PRIORITY, 4, 1)),
+        ("free actor with a hand", Two((HAND, 4, 2), (HAND, 1, 0))),
+        ("reason of one that runs", Word(REASON, 1, 1)),
+        ("reason of one that waits", Word(REASON, 0, 1)),
+        ("two running", Word(STATE, 4, 2)),
+    ]
 }
 
 // A wait: its filter and its deadline.
-pub fn waits(rt: &impl Print, m: u64) -> io::Result<u64> {
-    let mut n = m;
-    n = word(rt, n, b"unused filter: sender", WANT_SENDER, 1, 1)?;
-    n = word(rt, n, b"unused filter: class", WANT_CLASS, 2, 1)?;
-    n = word(rt, n, b"unused filter: tag", WANT_TAG, 4, 1)?;
-    n = word(rt, n, b"unused deadline", DEADLINE, 2, 4000)?;
-    n = word(rt, n, b"deadline at the clock", DEADLINE, 0, 3000)?;
-    n = word(rt, n, b"deadline too late", DEADLINE, 0, DEADLINE_END + 1)?;
-    n = word(rt, n, b"filter: class 5", WANT_CLASS, 0, 5)?;
-    n = word(rt, n, b"filter: class 14", WANT_CLASS, 0, 14)?;
-    n = word(rt, n, b"filter: class 16", WANT_CLASS, 0, 16)?;
-    n = word(rt, n, b"filter: tag", WANT_TAG, 0, ANY_TAG + 1)?;
-    n = word(rt, n, b"filter that matches", WANT_TAG, 0, 7)?;
-    n = word(rt, n, b"filter that matches any", WANT_TAG, 0, ANY_TAG)?;
-    Ok(n)
+pub fn waits() -> &'static [Break] {
+    &[
+        ("unused filter: sender", Word(WANT_SENDER, 1, 1)),
+        ("unused filter: class", Word(WANT_CLASS, 2, 1)),
+        ("unused filter: tag", Word(WANT_TAG, 4, 1)),
+        ("unused deadline", Word(DEADLINE, 2, 4000)),
+        ("deadline at the clock", Word(DEADLINE, 0, 3000)),
+        ("deadline too late", Word(DEADLINE, 0, DEADLINE_END + 1)),
+        ("filter: class 5", Word(WANT_CLASS, 0, 5)),
+        ("filter: class 14", Word(WANT_CLASS, 0, 14)),
+        ("filter: class 16", Word(WANT_CLASS, 0, 16)),
+        ("filter: tag", Word(WANT_TAG, 0, ANY_TAG + 1)),
+        ("filter that matches", Word(WANT_TAG, 0, 7)),
+        ("filter that matches any", Word(WANT_TAG, 0, ANY_TAG)),
+    ]
 }
 
 // The queue holds 2 and 3.
-pub fn queue(rt: &impl Print, m: u64) -> io::Result<u64> {
-    let mut n = m;
-    n = word(rt, n, b"queue: no such slot", QUEUE, 1, 5)?;
-    n = word(rt, n, b"queue: a word past its count", QUEUE, 2, 1)?;
-    let longer = becomes(QUEUED, 0, 3);
-    let again = becomes(QUEUE, 2, 2);
-    n = two(rt, n, b"queued twice", longer, again)?;
-    let shorter = becomes(QUEUED, 0, 1);
-    let gone = becomes(QUEUE, 1, 0);
-    n = two(rt, n, b"runnable and not queued", shorter, gone)?;
-    n = word(rt, n, b"waiting and queued", QUEUED, 0, 3)?;
-    let ends = becomes(QUEUE, 2, 4);
-    n = two(rt, n, b"free and queued", longer, ends)?;
-    Ok(n)
+pub fn queue() -> &'static [Break] {
+    &[
+        ("queue: no such slot", Word(QUEUE, 1, 5)),
+        ("queue: a word past its count", Word(QUEUE, 2, 1)),
+        ("queued twice", Two((QUEUED, 0, 3), (QUEUE, 2, 2))),
+        (
+            "runnable and not queued",
+            Two((QUEUED, 0, 1), (QUEUE, 1, 0)),
+        ),
+        ("waiting and queued", Word(QUEUED, 0, 3)),
+        ("free and queued", Two((QUEUED, 0, 3), (QUEUE, 2, 4))),
+    ]
 }
 
 // The mailbox entries 0 to 3 are in use, and 4 is free.
-pub fn boxes(rt: &impl Print, m: u64) -> io::Result<u64> {
-    let mut n = m;
-    n = word(rt, n, b"mailbox of a dead actor", MAIL_OWNER, 2, 5)?;
-    n = word(rt, n, b"mailbox of no slot", MAIL_OWNER, 2, 6)?;
-    n = word(rt, n, b"mailbox of nobody", MAIL_OWNER, 2, 0)?;
-    n = word(rt, n, b"mailbox: no such data", MAIL_DATA, 2, 9)?;
-    n = word(rt, n, b"mailbox: no data", MAIL_DATA, 2, 0)?;
-    n = word(rt, n, b"free mailbox with an owner", MAIL_OWNER, 4, 1)?;
-    n = word(rt, n, b"free mailbox with data", MAIL_DATA, 4, 9)?;
-    n = word(rt, n, b"mailbox in use and free", MAIL_FREE, 0, 17)?;
-    n = word(rt, n, b"mailbox neither in use nor free", MAIL_FREE, 0, 0)?;
-    n = word(
-        rt,
-        n,
-        b"mailbox: free bit past the capacity",
-        MAIL_FREE,
-        0,
-        48,
-    )?;
-    n = word(
-        rt,
-        n,
-        b"mailbox: last free bit",
-        MAIL_FREE,
-        3,
-        0x8000_0000_0000_0000,
-    )?;
-    Ok(n)
+pub fn mailboxes() -> &'static [Break] {
+    &[
+        ("mailbox of a dead actor", Word(MAIL_OWNER, 2, 5)),
+        ("mailbox of no slot", Word(MAIL_OWNER, 2, 6)),
+        ("mailbox of nobody", Word(MAIL_OWNER, 2, 0)),
+        ("mailbox: no such data", Word(MAIL_DATA, 2, 9)),
+        ("mailbox: no data", Word(MAIL_DATA, 2, 0)),
+        ("free mailbox with an owner", Word(MAIL_OWNER, 4, 1)),
+        ("free mailbox with data", Word(MAIL_DATA, 4, 9)),
+        ("mailbox in use and free", Word(MAIL_FREE, 0, 17)),
+        ("mailbox neither in use nor free", Word(MAIL_FREE, 0, 0)),
+        (
+            "mailbox: free bit past the capacity",
+            Word(MAIL_FREE, 0, 48),
+        ),
+        (
+            "mailbox: last free bit",
+            Word(MAIL_FREE, 3, 0x8000_0000_0000_0000),
+        ),
+    ]
 }
 
 // The arrivals are 0, 1, 2, 3.
-pub fn arrivals(rt: &impl Print, m: u64) -> io::Result<u64> {
-    let mut n = m;
-    n = word(rt, n, b"arrival: no such entry", ARRIVAL, 3, 5)?;
-    n = word(rt, n, b"arrival: a word past the count", ARRIVAL, 4, 1)?;
-    n = word(rt, n, b"arrival twice", ARRIVED, 0, 5)?;
-    let longer = becomes(ARRIVED, 0, 5);
-    let free = becomes(ARRIVAL, 4, 4);
-    n = two(rt, n, b"arrival of a free entry", longer, free)?;
-    let shorter = becomes(ARRIVED, 0, 3);
-    let gone = becomes(ARRIVAL, 3, 0);
-    n = two(rt, n, b"entry that did not arrive", shorter, gone)?;
-    Ok(n)
+pub fn arrivals() -> &'static [Break] {
+    &[
+        ("arrival: no such entry", Word(ARRIVAL, 3, 5)),
+        ("arrival: a word past the count", Word(ARRIVAL, 4, 1)),
+        ("arrival twice", Word(ARRIVED, 0, 5)),
+        (
+            "arrival of a free entry",
+            Two((ARRIVED, 0, 5), (ARRIVAL, 4, 4)),
+        ),
+        (
+            "entry that did not arrive",
+            Two((ARRIVED, 0, 3), (ARRIVAL, 3, 0)),
+        ),
+    ]
 }
 
 // Data entry 1 is in a hand; 0, 2, 3 and 4 are in mailboxes; 5 and 6 are a bus's; 7 is free.
-pub fn datas(rt: &impl Print, m: u64) -> io::Result<u64> {
-    let mut n = m;
-    n = word(rt, n, b"data in a hand and a mailbox", HAND, 3, 4)?;
-    n = word(rt, n, b"data in two hands", HAND, 3, 2)?;
-    n = word(rt, n, b"data in two mailboxes", MAIL_DATA, 2, 3)?;
-    n = word(rt, n, b"data of nobody", HAND, 1, 0)?;
-    n = word(rt, n, b"data in a hand and on a bus", HAND, 3, 6)?;
-    n = word(rt, n, b"data in a mailbox and on a bus", MAIL_DATA, 2, 6)?;
-    n = word(rt, n, b"free data in a hand", HAND, 3, 8)?;
-    n = word(rt, n, b"data neither in use nor free", DATA_FREE, 0, 0)?;
-    n = word(
-        rt,
-        n,
-        b"data: free bit past the capacity",
-        DATA_FREE,
-        0,
-        384,
-    )?;
-    n = word(
-        rt,
-        n,
-        b"data: last free bit",
-        DATA_FREE,
-        3,
-        0x8000_0000_0000_0000,
-    )?;
-    n = word(rt, n, b"free data with a sender", SENDER, 7, 257)?;
-    n = word(rt, n, b"free data with a length", LENGTH, 7, 1)?;
-    n = byte(rt, n, b"free data: first byte", 7, 0, 1)?;
-    n = byte(rt, n, b"free data: last byte", 7, 255, 1)?;
-    Ok(n)
+pub fn data() -> &'static [Break] {
+    &[
+        ("data in a hand and a mailbox", Word(HAND, 3, 4)),
+        ("data in two hands", Word(HAND, 3, 2)),
+        ("data in two mailboxes", Word(MAIL_DATA, 2, 3)),
+        ("data of nobody", Word(HAND, 1, 0)),
+        ("data in a hand and on a bus", Word(HAND, 3, 6)),
+        ("data in a mailbox and on a bus", Word(MAIL_DATA, 2, 6)),
+        ("free data in a hand", Word(HAND, 3, 8)),
+        ("data neither in use nor free", Word(DATA_FREE, 0, 0)),
+        ("data: free bit past the capacity", Word(DATA_FREE, 0, 384)),
+        (
+            "data: last free bit",
+            Word(DATA_FREE, 3, 0x8000_0000_0000_0000),
+        ),
+        ("free data with a sender", Word(SENDER, 7, 257)),
+        ("free data with a length", Word(LENGTH, 7, 1)),
+        ("free data: first byte", Byte(7, 0, 1)),
+        ("free data: last byte", Byte(7, 255, 1)),
+    ]
 }
 
 // Data entry 0 is an exit notice, 3 a notification of two bytes with the last tag, 4 a tick.
-pub fn messages(rt: &impl Print, m: u64) -> io::Result<u64> {
-    let mut n = m;
-    n = byte(rt, n, b"header: class 2", 0, 3, 0x28)?;
-    n = byte(rt, n, b"header: class 5", 0, 3, 0x58)?;
-    n = byte(rt, n, b"header: mark in class 0", 3, 3, 0x0f)?;
-    n = byte(rt, n, b"header: no mark in class 4", 0, 3, 0x40)?;
-    n = byte(rt, n, b"header: tag for any", 3, 0, 0xff)?;
-    n = byte(rt, n, b"header: tag in class 4", 0, 0, 1)?;
-    n = byte(rt, n, b"header: tag in class 3", 4, 2, 1)?;
-    n = word(
-        rt,
-        n,
-        b"length above 252",
-        LENGTH,
-        3,
-        PAYLOAD_MOST as u64 + 1,
-    )?;
-    n = word(rt, n, b"length of a tick", LENGTH, 4, TICK_BYTES as u64 + 1)?;
-    n = word(
-        rt,
-        n,
-        b"length of an exit notice",
-        LENGTH,
-        0,
-        EXIT_BYTES as u64 + 1,
-    )?;
-    n = word(rt, n, b"length of an old tick", LENGTH, 4, 8)?;
-    n = word(rt, n, b"length of an old exit notice", LENGTH, 0, 14)?;
-    n = word(rt, n, b"sender of a later age", SENDER, 3, 513)?;
-    n = word(rt, n, b"sender of age 0", SENDER, 3, 1)?;
-    n = word(rt, n, b"sender of no slot", SENDER, 3, 261)?;
-    n = word(rt, n, b"sender 0 in class 0", SENDER, 3, 0)?;
-    n = word(rt, n, b"sender 0 in class 4", SENDER, 0, 0)?;
-    n = byte(rt, n, b"byte past the payload", 3, 6, 1)?;
-    n = byte(rt, n, b"last byte past the payload", 3, 255, 1)?;
-    Ok(n)
+pub fn messages() -> &'static [Break] {
+    &[
+        ("header: class 2", Byte(0, 3, 0x28)),
+        ("header: class 5", Byte(0, 3, 0x58)),
+        ("header: mark in class 0", Byte(3, 3, 0x0f)),
+        ("header: no mark in class 4", Byte(0, 3, 0x40)),
+        ("header: tag for any", Byte(3, 0, 0xff)),
+        ("header: tag in class 4", Byte(0, 0, 1)),
+        ("header: tag in class 3", Byte(4, 2, 1)),
+        ("length above 252", Word(LENGTH, 3, PAYLOAD_MOST as u64 + 1)),
+        ("length of a tick", Word(LENGTH, 4, TICK_BYTES as u64 + 1)),
+        (
+            "length of an exit notice",
+            Word(LENGTH, 0, EXIT_BYTES as u64 + 1),
+        ),
+        ("length of an old tick", Word(LENGTH, 4, 8)),
+        ("length of an old exit notice", Word(LENGTH, 0, 14)),
+        ("sender of a later age", Word(SENDER, 3, 513)),
+        ("sender of age 0", Word(SENDER, 3, 1)),
+        ("sender of no slot", Word(SENDER, 3, 261)),
+        ("sender 0 in class 0", Word(SENDER, 3, 0)),
+        ("sender 0 in class 4", Word(SENDER, 0, 0)),
+        ("byte past the payload", Byte(3, 6, 1)),
+        ("last byte past the payload", Byte(3, 255, 1)),
+    ]
 }
 
 // Links 0 and 1 join slot 1 with 0 and with 2; 2 is free.
-pub fn links(rt: &impl Print, m: u64) -> io::Result<u64> {
-    let mut n = m;
-    n = word(rt, n, b"link: first end dead", LINK_ONE, 1, 5)?;
-    n = word(rt, n, b"link: second end dead", LINK_TWO, 1, 5)?;
-    n = word(rt, n, b"link: no second end", LINK_TWO, 1, 0)?;
-    n = word(rt, n, b"link to itself", LINK_TWO, 1, 2)?;
-    n = word(rt, n, b"free link with an end", LINK_TWO, 2, 1)?;
-    n = word(rt, n, b"pair twice", LINK_TWO, 1, 1)?;
-    let one = becomes(LINK_ONE, 2, 3);
-    let other = becomes(LINK_TWO, 2, 2);
-    n = two(rt, n, b"pair twice, the other way", one, other)?;
-    Ok(n)
+pub fn links() -> &'static [Break] {
+    &[
+        ("link: first end dead", Word(LINK_ONE, 1, 5)),
+        ("link: second end dead", Word(LINK_TWO, 1, 5)),
+        ("link: no second end", Word(LINK_TWO, 1, 0)),
+        ("link to itself", Word(LINK_TWO, 1, 2)),
+        ("free link with an end", Word(LINK_TWO, 2, 1)),
+        ("pair twice", Word(LINK_TWO, 1, 1)),
+        (
+            "pair twice, the other way",
+            Two((LINK_ONE, 2, 3), (LINK_TWO, 2, 2)),
+        ),
+    ]
 }
 
 // Monitor 0 is slot 1's, on slot 0; 1 is free.
-pub fn monitors(rt: &impl Print, m: u64) -> io::Result<u64> {
-    let mut n = m;
-    n = word(rt, n, b"monitor: watcher dead", WATCHER, 0, 5)?;
-    n = word(rt, n, b"monitor: watched dead", WATCHED, 0, 5)?;
-    n = word(rt, n, b"monitor: nobody watched", WATCHED, 0, 0)?;
-    n = word(rt, n, b"monitor on itself", WATCHED, 0, 2)?;
-    n = word(rt, n, b"free monitor with one watched", WATCHED, 1, 1)?;
-    n = word(rt, n, b"monitor: age 0 in use", MONITOR_AGE, 0, 0)?;
-    n = word(rt, n, b"monitor: age", MONITOR_AGE, 0, TOO_OLD)?;
-    n = word(rt, n, b"free monitor: age", MONITOR_AGE, 1, TOO_OLD)?;
-    Ok(n)
+pub fn monitors() -> &'static [Break] {
+    &[
+        ("monitor: watcher dead", Word(WATCHER, 0, 5)),
+        ("monitor: watched dead", Word(WATCHED, 0, 5)),
+        ("monitor: nobody watched", Word(WATCHED, 0, 0)),
+        ("monitor on itself", Word(WATCHED, 0, 2)),
+        ("free monitor with one watched", Word(WATCHED, 1, 1)),
+        ("monitor: age 0 in use", Word(MONITOR_AGE, 0, 0)),
+        ("monitor: age", Word(MONITOR_AGE, 0, TOO_OLD)),
+        ("free monitor: age", Word(MONITOR_AGE, 1, TOO_OLD)),
+    ]
 }
 
 // Timer 0 is slot 1's, periodic; 1 is free.
-pub fn timers(rt: &impl Print, m: u64) -> io::Result<u64> {
-    let mut n = m;
-    n = word(rt, n, b"timer of a dead actor", TIMER_OWNER, 0, 5)?;
-    n = word(rt, n, b"timer of no slot", TIMER_OWNER, 0, 6)?;
-    n = word(rt, n, b"timer: age 0 in use", TIMER_AGE, 0, 0)?;
-    n = word(rt, n, b"timer: age", TIMER_AGE, 0, TOO_OLD)?;
-    n = word(rt, n, b"timer: due too late", DUE, 0, DUE_END + 1)?;
-    n = word(rt, n, b"timer: interval too long", INTERVAL, 0, LONGEST + 1)?;
-    n = word(
-        rt,
-        n,
-        b"timer: interval too short",
-        INTERVAL,
-        0,
-        SHORTEST_INTERVAL - 1,
-    )?;
-    n = word(rt, n, b"free timer with a due time", DUE, 1, 1)?;
-    n = word(rt, n, b"free timer with an interval", INTERVAL, 1, 1)?;
-    Ok(n)
+pub fn timers() -> &'static [Break] {
+    &[
+        ("timer of a dead actor", Word(TIMER_OWNER, 0, 5)),
+        ("timer of no slot", Word(TIMER_OWNER, 0, 6)),
+        ("timer: age 0 in use", Word(TIMER_AGE, 0, 0)),
+        ("timer: age", Word(TIMER_AGE, 0, TOO_OLD)),
+        ("timer: due too late", Word(DUE, 0, DUE_END + 1)),
+        ("timer: interval too long", Word(INTERVAL, 0, LONGEST + 1)),
+        (
+            "timer: interval too short",
+            Word(INTERVAL, 0, SHORTEST_INTERVAL - 1),
+        ),
+        ("free timer with a due time", Word(DUE, 1, 1)),
+        ("free timer with an interval", Word(INTERVAL, 1, 1)),
+    ]
 }
 
 // Buses 0 and 1 are made; nobody sits on 1, and nothing stands there.
-pub fn buses(rt: &impl Print, m: u64) -> io::Result<u64> {
-    let mut n = m;
-    n = word(rt, n, b"bus made and not counted", BUSES, 0, 1)?;
-    n = word(rt, n, b"bus counted and not made", BUSES, 0, 3)?;
-    n = word(rt, n, b"bus: no entries", BUS_SIZE, 1, 0)?;
-    n = word(
-        rt,
-        n,
-        b"bus: 17 entries",
-        BUS_SIZE,
-        1,
-        MOST_VALUES as u64 + 1,
-    )?;
-    n = word(rt, n, b"bus: no subscribers", BUS_SEATS, 1, 0)?;
-    n = word(
-        rt,
-        n,
-        b"bus: 33 subscribers",
-        BUS_SEATS,
-        1,
-        MOST_SEATS as u64 + 1,
-    )?;
-    n = word(rt, n, b"bus: 33 reads", BUS_READS, 1, MOST_READS as u64 + 1)?;
-    n = word(rt, n, b"bus: age", BUS_AGE, 1, LONGEST_AGE + 1)?;
-    n = word(rt, n, b"no bus, with entries", BUS_SIZE, 2, 1)?;
-    n = word(rt, n, b"no bus, with subscribers", BUS_SEATS, 2, 1)?;
-    n = word(rt, n, b"no bus, with reads", BUS_READS, 31, 1)?;
-    n = word(rt, n, b"no bus, with an age", BUS_AGE, 31, 1)?;
-    n = word(rt, n, b"bus: more values than entries", BUS_SIZE, 0, 1)?;
-    Ok(n)
+pub fn buses() -> &'static [Break] {
+    &[
+        ("bus made and not counted", Word(BUSES, 0, 1)),
+        ("bus counted and not made", Word(BUSES, 0, 3)),
+        ("bus: no entries", Word(BUS_SIZE, 1, 0)),
+        ("bus: 17 entries", Word(BUS_SIZE, 1, MOST_VALUES as u64 + 1)),
+        ("bus: no subscribers", Word(BUS_SEATS, 1, 0)),
+        (
+            "bus: 33 subscribers",
+            Word(BUS_SEATS, 1, MOST_SEATS as u64 + 1),
+        ),
+        ("bus: 33 reads", Word(BUS_READS, 1, MOST_READS as u64 + 1)),
+        ("bus: age", Word(BUS_AGE, 1, LONGEST_AGE + 1)),
+        ("no bus, with entries", Word(BUS_SIZE, 2, 1)),
+        ("no bus, with subscribers", Word(BUS_SEATS, 2, 1)),
+        ("no bus, with reads", Word(BUS_READS, 31, 1)),
+        ("no bus, with an age", Word(BUS_AGE, 31, 1)),
+        ("bus: more values than entries", Word(BUS_SIZE, 0, 1)),
+    ]
 }
 
 // Slot 1 sits in the first of two seats of bus 0.
-pub fn seats(rt: &impl Print, m: u64) -> io::Result<u64> {
-    let mut n = m;
-    n = word(rt, n, b"subscriber dead", SEAT, EMPTY_SEAT, 5)?;
-    n = word(rt, n, b"subscriber: no such slot", SEAT, EMPTY_SEAT, 6)?;
-    n = word(rt, n, b"subscriber twice", SEAT, EMPTY_SEAT, 2)?;
-    n = word(rt, n, b"subscriber past the seats", SEAT, NO_SEAT, 3)?;
-    n = word(rt, n, b"subscriber of no bus", SEAT, SEAT_OF_NO_BUS, 3)?;
-    Ok(n)
+pub fn seats() -> &'static [Break] {
+    &[
+        ("subscriber dead", Word(SEAT, EMPTY_SEAT, 5)),
+        ("subscriber: no such slot", Word(SEAT, EMPTY_SEAT, 6)),
+        ("subscriber twice", Word(SEAT, EMPTY_SEAT, 2)),
+        ("subscriber past the seats", Word(SEAT, NO_SEAT, 3)),
+        ("subscriber of no bus", Word(SEAT, SEAT_OF_NO_BUS, 3)),
+    ]
 }
 
 // The values of bus 0 are in data 5, which slot 1 has read, and in 6, which it may still read. Data 1 is in a hand.
-pub fn values(rt: &impl Print, m: u64) -> io::Result<u64> {
-    let mut n = m;
-    n = word(rt, n, b"value: bus not made", VALUE_BUS, 5, 3)?;
-    n = word(rt, n, b"value: bus far off", VALUE_BUS, 5, OLDEST)?;
-    n = word(rt, n, b"value of no bus", VALUE_BUS, 6, 0)?;
-    n = word(rt, n, b"message with a bus", VALUE_BUS, 1, 2)?;
-    n = word(rt, n, b"free data with a bus", VALUE_BUS, 7, 2)?;
-    n = word(rt, n, b"message with readers", READERS, 1, 1)?;
-    n = word(rt, n, b"message with a time", PUBLISHED, 1, 1)?;
-    n = word(rt, n, b"value of a later time", PUBLISHED, 6, 3001)?;
-    n = word(rt, n, b"value read by one who still may", READERS, 6, BOTH)?;
-    n = word(
-        rt,
-        n,
-        b"value that nobody may read",
-        READERS,
-        6,
-        ONE_TOO_MANY,
-    )?;
-    n = word(rt, n, b"value of one who left", SEAT, 0, 0)?;
-    Ok(n)
+pub fn values() -> &'static [Break] {
+    &[
+        ("value: bus not made", Word(VALUE_BUS, 5, 3)),
+        ("value: bus far off", Word(VALUE_BUS, 5, OLDEST)),
+        ("value of no bus", Word(VALUE_BUS, 6, 0)),
+        ("message with a bus", Word(VALUE_BUS, 1, 2)),
+        ("free data with a bus", Word(VALUE_BUS, 7, 2)),
+        ("message with readers", Word(READERS, 1, 1)),
+        ("message with a time", Word(PUBLISHED, 1, 1)),
+        ("value of a later time", Word(PUBLISHED, 6, 3001)),
+        ("value read by one who still may", Word(READERS, 6, BOTH)),
+        ("value that nobody may read", Word(READERS, 6, ONE_TOO_MANY)),
+        ("value of one who left", Word(SEAT, 0, 0)),
+    ]
 }
 
 // The row of values is 5, 6.
-pub fn row(rt: &impl Print, m: u64) -> io::Result<u64> {
-    let mut n = m;
-    n = word(rt, n, b"row of values: no such data", ISSUE, 1, 9)?;
-    n = word(rt, n, b"row of values: none", ISSUE, 1, 0)?;
-    n = word(rt, n, b"row of values: a word past the count", ISSUE, 2, 9)?;
-    n = word(rt, n, b"row of values: a message", ISSUE, 1, 1)?;
-    let longer = becomes(ISSUED, 0, 3);
-    let again = becomes(ISSUE, 2, 6);
-    n = two(rt, n, b"row of values: one twice", longer, again)?;
-    let shorter = becomes(ISSUED, 0, 1);
-    let gone = becomes(ISSUE, 1, 0);
-    n = two(rt, n, b"row of values: one left out", shorter, gone)?;
-    Ok(n)
+pub fn row() -> &'static [Break] {
+    &[
+        ("row of values: no such data", Word(ISSUE, 1, 9)),
+        ("row of values: none", Word(ISSUE, 1, 0)),
+        ("row of values: a word past the count", Word(ISSUE, 2, 9)),
+        ("row of values: a message", Word(ISSUE, 1, 1)),
+        (
+            "row of values: one twice",
+            Two((ISSUED, 0, 3), (ISSUE, 2, 6)),
+        ),
+        (
+            "row of values: one left out",
+            Two((ISSUED, 0, 1), (ISSUE, 1, 0)),
+        ),
+    ]
 }
 
 // What was published has two bytes, header 0 and no sender.
-pub fn public(rt: &impl Print, m: u64) -> io::Result<u64> {
-    let mut n = m;
-    n = byte(rt, n, b"value: tag", 5, 0, 1)?;
-    n = byte(rt, n, b"value: class 4", 5, 3, 0x48)?;
-    n = word(rt, n, b"value with a sender", SENDER, 5, 257)?;
-    n = word(
-        rt,
-        n,
-        b"value: length above 252",
-        LENGTH,
-        5,
-        PAYLOAD_MOST as u64 + 1,
-    )?;
-    n = byte(rt, n, b"value: byte past the payload", 5, 6, 1)?;
-    n = byte(rt, n, b"value: last byte", 5, 255, 1)?;
-    Ok(n)
+pub fn published() -> &'static [Break] {
+    &[
+        ("value: tag", Byte(5, 0, 1)),
+        ("value: class 4", Byte(5, 3, 0x48)),
+        ("value with a sender", Word(SENDER, 5, 257)),
+        (
+            "value: length above 252",
+            Word(LENGTH, 5, PAYLOAD_MOST as u64 + 1),
+        ),
+        ("value: byte past the payload", Byte(5, 6, 1)),
+        ("value: last byte", Byte(5, 255, 1)),
+    ]
+}
+
+// All of them, a table for each part of the state.
+pub fn all() -> [&'static [Break]; 16] {
+    [
+        head(),
+        actors(),
+        waits(),
+        queue(),
+        mailboxes(),
+        arrivals(),
+        data(),
+        messages(),
+        links(),
+        monitors(),
+        timers(),
+        buses(),
+        seats(),
+        values(),
+        row(),
+        published(),
+    ]
 }

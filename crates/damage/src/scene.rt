@@ -1,44 +1,37 @@
 // A small runtime in which there is one of everything.
-use crate::places::{
-    SMALL_ACTORS, SMALL_DATAS, SMALL_LINKS, SMALL_MAILS, SMALL_MONITORS, SMALL_TIMERS,
-};
+use crate::places::SMALL;
 use runtime::host::{
     fg_advance, fg_bus, fg_every, fg_exit, fg_link, fg_monitor, fg_next, fg_notify, fg_publish,
     fg_read, fg_receive, fg_spawn, fg_subscribe, fg_yield,
 };
 use runtime::start::fg_start;
+use tables::Caps;
 use tables::limits::{ANY_SENDER, ANY_TAG};
 
 // The last tag that a notification may have.
 const LAST_TAG: u64 = ANY_TAG - 1;
 
-// Starts the small runtime.
-fn start_small(t: &mut [u64], p: &mut [u8]) {
+// Starts a runtime of these capacities.
+pub fn start(t: &mut [u64], p: &mut [u8], k: Caps) {
     fg_start(
         t,
         p,
-        SMALL_ACTORS as u64,
-        SMALL_MAILS as u64,
-        SMALL_DATAS as u64,
-        SMALL_LINKS as u64,
-        SMALL_MONITORS as u64,
-        SMALL_TIMERS as u64,
+        k.actors as u64,
+        k.mails as u64,
+        k.datas as u64,
+        k.links as u64,
+        k.monitors as u64,
+        k.timers as u64,
     );
 }
 
-// A fresh runtime at 1,000 µs, and actor 256, which runs first.
+// A fresh runtime at 1,000 µs, and the actors 256, which runs first, to 260.
 fn begun(t: &mut [u64], p: &mut [u8]) {
-    start_small(t, p);
+    start(t, p, SMALL);
     fg_advance(t, p, 1000);
-    fg_spawn(t, p, 0);
-}
-
-// The actors 257 to 260.
-fn joined(t: &mut [u64], p: &mut [u8]) {
-    fg_spawn(t, p, 1);
-    fg_spawn(t, p, 2);
-    fg_spawn(t, p, 2);
-    fg_spawn(t, p, 1);
+    for priority in [0, 1, 2, 2, 1] {
+        fg_spawn(t, p, priority);
+    }
 }
 
 // 256 waits until 6,000 µs for tag 9; 257 runs and watches 260.
@@ -73,37 +66,25 @@ fn told(t: &mut [u64], p: &mut [u8]) {
     fg_notify(t, p, 258, LAST_TAG, b"xy");
 }
 
-// All of that, one after the other.
-fn grown(t: &mut [u64], p: &mut [u8]) {
-    begun(t, p);
-    joined(t, p);
-    waited(t, p);
-    ended(t, p);
-}
-
-// Two buses, of three entries and two seats, and of one each; 257 sits on the first one.
-fn seated(t: &mut [u64], p: &mut [u8]) {
+// Two buses, of three entries and two seats, and of one each; 257 sits on the first one, and has read one of its two values.
+fn aired(t: &mut [u64], p: &mut [u8]) {
     fg_bus(t, p, 3, 2, 0, 0);
     fg_bus(t, p, 1, 1, 0, 0);
     fg_subscribe(t, p, 0);
-}
-
-// Two values on the first bus, of which 257 has read one.
-fn aired(t: &mut [u64], p: &mut [u8]) {
-    let mut slice = [0u8; 2];
     fg_publish(t, p, 0, b"20");
     fg_publish(t, p, 0, b"21");
-    fg_read(t, p, 0, &mut slice);
+    fg_read(t, p, 0, &mut [0; 2]);
 }
 
 // Data entries: 0 a notice for slot 1, 1 in its hand, 2 for slot 0, 3 for slot 2, 4 a tick for slot 1, 5 and 6 values of bus 0, 7
 // free. The mailbox entries 0 to 3 hold data 0, 2, 3 and 4; slots 2 and 3 are queued; slot 1 is in seat 0 of bus 0. The clock is
 // at 3,000 µs.
 pub fn bring(t: &mut [u64], p: &mut [u8]) {
-    grown(t, p);
+    begun(t, p);
+    waited(t, p);
+    ended(t, p);
     tied(t, p);
     told(t, p);
     fg_advance(t, p, 2000);
-    seated(t, p);
     aired(t, p);
 }

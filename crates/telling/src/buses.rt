@@ -1,89 +1,59 @@
 // Buses: what stands on them, who is subscribed, and which of them hold data entries.
-use crate::places::at;
-use crate::seats::{entries_on, in_seat, subscribers_of};
-use crate::who::track_up;
-use crate::words::{counted, end_line, number, say, track};
+use crate::view::{View, stored};
+use crate::words::Counted;
 use std::io;
-use tables::columns::{BUS_SEATS, BUS_SIZE};
+use tables::columns::{BUS_SEATS, BUS_SIZE, VALUE_BUS};
+use tables::limits::MOST_BUSES;
 
-// A bus by its number.
-fn bus(rt: &impl Print, b: u64) -> io::Result<()> {
-    say(rt, b"bus ")?;
-    number(rt, b)
+// How many data entries bus b has.
+fn entries_on(view: View<'_>, b: usize) -> usize {
+    view.column(VALUE_BUS)
+        .iter()
+        .filter(|bus| stored(**bus) == Some(b))
+        .count()
 }
 
-// So many of the most that there can be.
-fn of_most(rt: &impl Print, n: u64, most: u64, what: &[u8]) -> io::Result<()> {
-    number(rt, n)?;
-    say(rt, b" of ")?;
-    number(rt, most)?;
-    say(rt, what)
+// How many subscribers bus b has.
+fn subscribers_of(view: View<'_>, b: usize) -> usize {
+    view.seats(b).iter().filter(|seat| **seat != 0).count()
 }
 
-// A bus that has entries or subscribers.
-fn bus_line(rt: &impl Print, t: &[u64], b: u64) -> io::Result<()> {
-    let entries = entries_on(t, b);
-    let subscribers = subscribers_of(t, b);
-    if (entries == 0) & (subscribers == 0) {
-        return Ok(());
-    }
-    bus(rt, b)?;
-    say(rt, b": ")?;
-    of_most(rt, entries, at(t, BUS_SIZE, b), b" entries, ")?;
-    of_most(rt, subscribers, at(t, BUS_SEATS, b), b" subscribers\n")
-}
-
-// Each of them.
-pub fn each_bus(rt: &impl Print, t: &[u64]) -> io::Result<()> {
-    for b in 0..32 {
-        bus_line(rt, t, b)?;
+// A line for each bus that has entries or subscribers: how many of the most that there can be.
+pub fn each_bus(rt: &impl Print, view: View<'_>) -> io::Result<()> {
+    for b in 0..MOST_BUSES {
+        let entries = entries_on(view, b);
+        let subscribers = subscribers_of(view, b);
+        if (entries != 0) | (subscribers != 0) {
+            let size = view.at(BUS_SIZE, b);
+            let seats = view.at(BUS_SEATS, b);
+            println!(rt;
+                "bus {b}: {entries} of {size} entries, {subscribers} of {seats} subscribers"
+            )?;
+        }
     }
     Ok(())
 }
 
-// What a bus holds of the data entries.
-fn holds_entries(rt: &impl Print, b: u64, n: u64) -> io::Result<()> {
-    if n != 0 {
-        say(rt, b"    ")?;
-        bus(rt, b)?;
-        say(rt, b" has ")?;
-        counted(rt, n, b" entry\n", b" entries\n")?;
-    }
-    Ok(())
-}
-
-// What each bus holds of them.
-pub fn bus_holders(rt: &impl Print, t: &[u64]) -> io::Result<()> {
-    for b in 0..32 {
-        holds_entries(rt, b, entries_on(t, b))?;
-    }
-    Ok(())
-}
-
-// A subscriber that has a seat.
-fn sitter(rt: &impl Print, t: &[u64], up: u64) -> io::Result<()> {
-    if up != 0 {
-        say(rt, b"    ")?;
-        track(rt, track_up(t, up))?;
-        end_line(rt)?;
-    }
-    Ok(())
-}
-
-// Who has the seats of bus b.
-fn sitters(rt: &impl Print, t: &[u64], b: u64) -> io::Result<()> {
-    for n in 0..32 {
-        sitter(rt, t, in_seat(t, b, n))?;
+// What each bus holds of the data entries.
+pub fn bus_holders(rt: &impl Print, view: View<'_>) -> io::Result<()> {
+    for b in 0..MOST_BUSES {
+        let n = entries_on(view, b);
+        if n != 0 {
+            let entries = Counted(n as u64, "entry", "entries");
+            println!(rt; "    bus {b} has {entries}")?;
+        }
     }
     Ok(())
 }
 
 // A bus whose seats are all taken, and by whom.
-pub fn tell_seats(rt: &impl Print, t: &[u64], b: u64) -> io::Result<()> {
-    say(rt, b"  seats of bus ")?;
-    number(rt, b)?;
-    say(rt, b": none of ")?;
-    number(rt, at(t, BUS_SEATS, b))?;
-    say(rt, b" is free\n")?;
-    sitters(rt, t, b)
+pub fn tell_seats(rt: &impl Print, view: View<'_>, b: usize) -> io::Result<()> {
+    let seats = view.at(BUS_SEATS, b);
+    println!(rt; "  seats of bus {b}: none of {seats} is free")?;
+    for seat in view.seats(b) {
+        if let Some(track) = view.stored_track(*seat) {
+            println!(rt; "    track {track}")?;
+        }
+    }
+    Ok(())
 }

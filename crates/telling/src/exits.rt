@@ -1,27 +1,19 @@
 // An exit: who ended, why, and what was still in its name.
 use crate::named::in_its_name;
-use crate::places::head;
-use crate::record::{FIRST, number_at};
-use crate::who::running;
-use crate::words::{number, reason, record, say, track};
+use crate::record::Record;
+use crate::view::View;
+use crate::words::{Head, Reason};
 use std::io;
-use tables::columns::CLOCK;
-use tables::limits::ACTOR_FACTOR;
 
-// The track that runs in the buffers as they were before, ended by record n.
-pub fn tell_exit(rt: &impl Print, t: &[u64], p: &[u8], r: &[u8], n: u64) -> io::Result<()> {
-    let id = running(t);
-    let slot = id % ACTOR_FACTOR;
-    record(rt, n, head(t, CLOCK))?;
-    track(rt, id)?;
-    say(rt, b" (slot ")?;
-    number(rt, slot)?;
-    say(rt, b") ended, ")?;
-    reason(rt, number_at(r, FIRST))?;
-    say(rt, b"; notices: ")?;
-    number(rt, number_at(r, FIRST + 16))?;
-    say(rt, b" sent, ")?;
-    number(rt, number_at(r, FIRST + 24))?;
-    say(rt, b" lost; still in its name:\n")?;
-    in_its_name(rt, t, p, slot)
+// The track in a slot of the runtime as it was before, ended by a record.
+pub fn tell_exit(rt: &impl Print, view: View<'_>, slot: usize, r: Record<'_>) -> io::Result<()> {
+    let head = Head::new(r.n, view);
+    let track = view.track_in(slot);
+    let reason = Reason(r.number(0));
+    let sent = r.number(2);
+    let lost = r.number(3);
+    println!(rt;
+        "{head}track {track} (slot {slot}) ended, {reason}; notices: {sent} sent, {lost} lost; still in its name:"
+    )?;
+    in_its_name(rt, view, slot)
 }

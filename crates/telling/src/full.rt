@@ -1,194 +1,149 @@
 // A refusal for want of room: which pool was full, and what held it.
 use crate::buses::{bus_holders, tell_seats};
-use crate::places::{at, head};
-use crate::record::{
-    AFTER, BUS, EVERY, FIRST, LINK, MONITOR, NOTIFY, PUBLISH, SPAWN, SUBSCRIBE, number_at,
-};
-use crate::states::state;
-use crate::things::{Thing, how_many, one_up};
-use crate::who::{lives, running, track_in};
-use crate::words::{call, counted, end_line, number, record, say, track};
-use runtime::host::fg_report;
+use crate::named::{Held, InHand, Link, MonitorBy, Timer, Unread, count};
+use crate::record::{Record, Refusal};
+use crate::six::Six;
+use crate::states::State;
+use crate::view::View;
+use crate::words::{Call, Caller, Counted, Head};
 use std::io;
-use tables::columns::{ACTORS, BUSES, CLOCK, DATAS, HAND, LINKS, MAILS, MONITORS, TIMERS};
-
-// The six pools.
-#[derive(Clone, Copy)]
-pub enum Pool {
-    Tracks,
-    Mails,
-    Datas,
-    Links,
-    Monitors,
-    Timers,
-}
+use tables::columns::{
+    ACTORS, AGE, BUSES, DATAS, LINKS, MAILS, MONITOR_AGE, MONITORS, STATE, TIMER_AGE, TIMER_OWNER,
+    TIMERS, WATCHER,
+};
+use tables::limits::{MOST_ACTORS, OLDEST};
+use trace::kind::Kind;
 
 // Does a call of this kind need room?
-pub fn needs_room(kind: u16) -> bool {
-    match kind {
-        SPAWN | NOTIFY | AFTER | EVERY | LINK | MONITOR | BUS | PUBLISH | SUBSCRIBE => true,
-        _ => false,
-    }
+pub fn needs_room(kind: Kind) -> bool {
+    matches!(
+        kind,
+        Kind::Spawn
+            | Kind::Notify
+            | Kind::After
+            | Kind::Every
+            | Kind::Link
+            | Kind::Monitor
+            | Kind::Bus
+            | Kind::Publish
+            | Kind::Subscribe
+    )
 }
 
-// A pool by name: none of its entries is free.
-fn none_free(rt: &impl Print, name: &[u8], size: u64) -> io::Result<()> {
-    say(rt, b"  ")?;
-    say(rt, name)?;
-    say(rt, b": none of ")?;
-    number(rt, size)?;
-    say(rt, b" is free\n")
+// None of so many is free.
+fn none_free(rt: &impl Print, what: &str, size: u64) -> io::Result<()> {
+    println!(rt; "  {what}: none of {size} is free")
 }
 
-fn pool_line(rt: &impl Print, t: &[u64], pool: Pool) -> io::Result<()> {
-    match pool {
-        Pool::Tracks => none_free(rt, b"tracks", head(t, ACTORS)),
-        Pool::Mails => none_free(rt, b"mailbox entries", head(t, MAILS)),
-        Pool::Datas => none_free(rt, b"data entries", head(t, DATAS)),
-        Pool::Links => none_free(rt, b"links", head(t, LINKS)),
-        Pool::Monitors => none_free(rt, b"monitors", head(t, MONITORS)),
-        Pool::Timers => none_free(rt, b"timers", head(t, TIMERS)),
-    }
-}
-
-// A line for a track that holds some of a pool.
-fn holds(rt: &impl Print, t: &[u64], slot: u64, n: u64, what: &[u8]) -> io::Result<()> {
+// How much of a sort the track in a slot has, where it has any.
+fn holder<H: Held>(rt: &impl Print, view: View<'_>, slot: usize, note: &str) -> io::Result<()> {
+    let n = count::<H>(view, slot);
     if n == 0 {
         return Ok(());
     }
-    say(rt, b"    ")?;
-    track(rt, track_in(t, slot))?;
-    say(rt, b" has ")?;
-    number(rt, n)?;
-    say(rt, what)?;
-    end_line(rt)
+    let track = view.track_in(slot);
+    println!(rt; "    track {track} has {n}{note}")
 }
 
-// How many things of a sort are in the name of the track in a slot.
-fn of(t: &[u64], slot: u64, thing: Thing) -> u64 {
-    how_many(t, thing, one_up(slot))
-}
-
-// A track that lives, and what it is about.
-fn live_line(rt: &impl Print, t: &[u64], slot: u64) -> io::Result<()> {
-    say(rt, b"    ")?;
-    track(rt, track_in(t, slot))?;
-    state(rt, t, slot)?;
-    end_line(rt)
-}
-
-// The message in hand holds a data entry too.
-fn hand_line(rt: &impl Print, t: &[u64], slot: u64) -> io::Result<()> {
-    if at(t, HAND, slot) != 0 {
-        holds(rt, t, slot, 1, b" in hand")?;
-    }
-    Ok(())
-}
-
-// What the track in a slot holds of a pool.
-fn holder(rt: &impl Print, t: &[u64], pool: Pool, slot: u64) -> io::Result<()> {
-    match pool {
-        Pool::Tracks => live_line(rt, t, slot),
-        Pool::Mails => holds(rt, t, slot, of(t, slot, Thing::Unread), b" unread"),
-        Pool::Datas => {
-            holds(rt, t, slot, of(t, slot, Thing::Unread), b" unread")?;
-            hand_line(rt, t, slot)
-        }
-        Pool::Links => holds(rt, t, slot, of(t, slot, Thing::Link), b""),
-        Pool::Monitors => holds(rt, t, slot, of(t, slot, Thing::MonitorBy), b""),
-        Pool::Timers => holds(rt, t, slot, of(t, slot, Thing::Timer), b""),
-    }
-}
-
-// What each track holds of a pool.
-fn holders(rt: &impl Print, t: &[u64], pool: Pool) -> io::Result<()> {
-    for slot in 0..256 {
-        if lives(t, slot) {
-            holder(rt, t, pool, slot)?;
+// How much of a sort each track has.
+fn holders<H: Held>(rt: &impl Print, view: View<'_>, note: &str) -> io::Result<()> {
+    for slot in 0..MOST_ACTORS {
+        if view.lives(slot) {
+            holder::<H>(rt, view, slot, note)?;
         }
     }
     Ok(())
 }
 
-// What was published holds data entries too.
-fn other_holders(rt: &impl Print, t: &[u64], pool: Pool) -> io::Result<()> {
-    match pool {
-        Pool::Datas => bus_holders(rt, t),
-        _ => Ok(()),
-    }
-}
-
-// How many slots of a pool have had their last use.
-fn worn_of(t: &[u64], pool: Pool) -> u64 {
-    match pool {
-        Pool::Tracks => how_many(t, Thing::WornTrack, 0),
-        Pool::Monitors => how_many(t, Thing::WornMonitor, 0),
-        Pool::Timers => how_many(t, Thing::WornTimer, 0),
-        _ => 0,
-    }
-}
-
-fn worn_line(rt: &impl Print, t: &[u64], pool: Pool) -> io::Result<()> {
-    let n = worn_of(t, pool);
-    if n != 0 {
-        say(rt, b"    ")?;
-        counted(rt, n, b" slot is worn out\n", b" slots are worn out\n")?;
-    }
-    Ok(())
-}
-
-// A pool with nothing free, and what held it; nothing, where something is free.
-fn tell_pool(rt: &impl Print, t: &[u64], pool: Pool, free: u64) -> io::Result<()> {
-    if free != 0 {
+// How many slots have had their last use: nobody holds them, and they are as old as can be.
+fn worn(rt: &impl Print, view: View<'_>, holder: usize, age: usize) -> io::Result<()> {
+    let slots = view.column(holder).iter().zip(view.column(age));
+    let n = slots
+        .filter(|(holder, age)| **holder == 0 && **age == OLDEST)
+        .count();
+    if n == 0 {
         return Ok(());
     }
-    pool_line(rt, t, pool)?;
-    holders(rt, t, pool)?;
-    other_holders(rt, t, pool)?;
-    worn_line(rt, t, pool)
+    let slots = Counted(n as u64, "slot is", "slots are");
+    println!(rt; "    {slots} worn out")
 }
 
-// The pools that a call needs, those of them that were full.
-fn tell_pools(rt: &impl Print, t: &[u64], kind: u16, free: [u64; 6]) -> io::Result<()> {
-    match kind {
-        SPAWN => tell_pool(rt, t, Pool::Tracks, free[0]),
-        NOTIFY => {
-            tell_pool(rt, t, Pool::Mails, free[1])?;
-            tell_pool(rt, t, Pool::Datas, free[2])
+// The tracks were full: what each is about.
+fn tell_tracks(rt: &impl Print, view: View<'_>) -> io::Result<()> {
+    none_free(rt, "tracks", view.head(ACTORS))?;
+    for slot in 0..MOST_ACTORS {
+        if view.lives(slot) {
+            let track = view.track_in(slot);
+            let state = State { view, slot };
+            println!(rt; "    track {track}, {state}")?;
         }
-        LINK => tell_pool(rt, t, Pool::Links, free[3]),
-        MONITOR => tell_pool(rt, t, Pool::Monitors, free[4]),
-        AFTER | EVERY => tell_pool(rt, t, Pool::Timers, free[5]),
-        PUBLISH => tell_pool(rt, t, Pool::Datas, free[2]),
+    }
+    worn(rt, view, STATE, AGE)
+}
+
+fn tell_mails(rt: &impl Print, view: View<'_>) -> io::Result<()> {
+    none_free(rt, "mailbox entries", view.head(MAILS))?;
+    holders::<Unread>(rt, view, " unread")
+}
+
+// The data entries: a message in hand has one too, and so has what was published.
+fn tell_datas(rt: &impl Print, view: View<'_>) -> io::Result<()> {
+    none_free(rt, "data entries", view.head(DATAS))?;
+    for slot in 0..MOST_ACTORS {
+        if view.lives(slot) {
+            holder::<Unread>(rt, view, slot, " unread")?;
+            holder::<InHand>(rt, view, slot, " in hand")?;
+        }
+    }
+    bus_holders(rt, view)
+}
+
+fn tell_links(rt: &impl Print, view: View<'_>) -> io::Result<()> {
+    none_free(rt, "links", view.head(LINKS))?;
+    holders::<Link>(rt, view, "")
+}
+
+fn tell_monitors(rt: &impl Print, view: View<'_>) -> io::Result<()> {
+    none_free(rt, "monitors", view.head(MONITORS))?;
+    holders::<MonitorBy>(rt, view, "")?;
+    worn(rt, view, WATCHER, MONITOR_AGE)
+}
+
+fn tell_timers(rt: &impl Print, view: View<'_>) -> io::Result<()> {
+    none_free(rt, "timers", view.head(TIMERS))?;
+    holders::<Timer>(rt, view, "")?;
+    worn(rt, view, TIMER_OWNER, TIMER_AGE)
+}
+
+// What the call needed that was full: a pool, the seats of a bus, or the buses.
+fn tell_what(rt: &impl Print, view: View<'_>, free: Six, r: Record<'_>) -> io::Result<()> {
+    match r.kind {
+        Kind::Spawn if free.tracks == 0 => tell_tracks(rt, view),
+        Kind::Notify => {
+            if free.mails == 0 {
+                tell_mails(rt, view)?;
+            }
+            if free.datas == 0 {
+                tell_datas(rt, view)?;
+            }
+            Ok(())
+        }
+        Kind::Publish if free.datas == 0 => tell_datas(rt, view),
+        Kind::Link if free.links == 0 => tell_links(rt, view),
+        Kind::Monitor if free.monitors == 0 => tell_monitors(rt, view),
+        Kind::After | Kind::Every if free.timers == 0 => tell_timers(rt, view),
+        Kind::Subscribe => tell_seats(rt, view, r.number(0) as usize),
+        Kind::Bus => none_free(rt, "buses", view.head(BUSES)),
         _ => Ok(()),
     }
 }
 
-// The seats of a bus, or the buses, those of them that a call needs: they were full.
-fn tell_lists(rt: &impl Print, t: &[u64], r: &[u8], kind: u16) -> io::Result<()> {
-    match kind {
-        SUBSCRIBE => tell_seats(rt, t, number_at(r, FIRST)),
-        BUS => none_free(rt, b"buses", head(t, BUSES)),
-        _ => Ok(()),
-    }
-}
-
-// The lines of a call that found no room at record n.
-pub fn tell_full(
-    rt: &impl Print,
-    t: &mut [u64],
-    p: &mut [u8],
-    r: &[u8],
-    kind: u16,
-    n: u64,
-) -> io::Result<()> {
-    record(rt, n, head(t, CLOCK))?;
-    track(rt, running(t))?;
-    say(rt, b" called ")?;
-    call(rt, kind)?;
-    say(rt, b"; answered 2, no room\n")?;
-    let counts = fg_report(t, p);
-    let free = counts.free;
-    tell_pools(rt, t, kind, free)?;
-    tell_lists(rt, t, r, kind)
+// The lines of a call that found no room.
+pub fn tell_full(rt: &impl Print, view: View<'_>, free: Six, r: Record<'_>) -> io::Result<()> {
+    let head = Head::new(r.n, view);
+    let caller = Caller::new(view);
+    let call = Call(r.kind);
+    let refusal = Refusal::NoRoom;
+    println!(rt; "{head}{caller} called {call}; answered {refusal}, no room")?;
+    tell_what(rt, view, free, r)
 }

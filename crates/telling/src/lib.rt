@@ -2,20 +2,18 @@
 #![tactic(auto)]
 
 pub mod aimed;
+pub mod buffers;
 pub mod buses;
 pub mod ends;
 pub mod exits;
 pub mod full;
 pub mod input;
-pub mod kept;
 pub mod left;
 pub mod messages;
 pub mod named;
-pub mod places;
 pub mod record;
-pub mod seats;
+pub mod six;
 pub mod starts;
 pub mod states;
-pub mod things;
-pub mod who;
+pub mod view;
 pub mod words;

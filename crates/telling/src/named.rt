@@ -1,125 +1,268 @@
 // What is in a track's name, a line each.
-use crate::messages::message;
-use crate::places::at;
-use crate::seats::{seat_of, unread_on};
-use crate::things::{Thing, is_its, one_up, unread};
-use crate::who::{monitor_id, timer_id, track_up};
-use crate::words::{counted, end_line, number, say, time};
-use std::io;
+use crate::messages::Message;
+use crate::view::{View, id_of, stored};
+use crate::words::{Counted, Time};
+use std::{fmt, io};
 use tables::columns::{
-    DUE, HAND, INTERVAL, LINK_ONE, LINK_TWO, MONITOR_AGE, TIMER_AGE, WATCHED, WATCHER,
+    ARRIVAL, ARRIVED, DUE, HAND, INTERVAL, LINK_ONE, LINK_TWO, MAIL_DATA, MAIL_OWNER, MONITOR_AGE,
+    READERS, TIMER_AGE, TIMER_OWNER, VALUE_BUS, WATCHED, WATCHER,
+};
+use tables::limits::{
+    MONITOR_FACTOR, MOST_BUSES, MOST_DATAS, MOST_LINKS, MOST_MAILS, MOST_MONITORS, MOST_SEATS,
+    MOST_TIMERS, TIMER_FACTOR,
 };
 
-fn unread_line(rt: &impl Print, t: &[u64], p: &[u8], i: u64) -> io::Result<()> {
-    say(rt, b"unread: ")?;
-    message(rt, t, p, unread(t, i))
+// A sort of thing that can be in a track's name, told in a line.
+pub trait Held: fmt::Display + Drop {
+    // There are no more of the sort.
+    const MOST: usize;
+
+    // The i-th of the sort, where it is in the name of the track in a slot.
+    fn of(view: View<'_>, slot: usize, i: usize) -> Option<Self>;
 }
 
-// A timer: its id, when it is due, how often.
-fn timer_line(rt: &impl Print, t: &[u64], i: u64) -> io::Result<()> {
-    say(rt, b"timer ")?;
-    number(rt, timer_id(at(t, TIMER_AGE, i), i))?;
-    say(rt, b", due at ")?;
-    time(rt, at(t, DUE, i))?;
-    let interval = at(t, INTERVAL, i);
-    if interval == 0 {
-        return say(rt, b", once");
+// How many things of a sort are in the name of the track in a slot.
+pub fn count<H: Held>(view: View<'_>, slot: usize) -> usize {
+    (0..H::MOST)
+        .filter(|i| H::of(view, slot, *i).is_some())
+        .count()
+}
+
+// A message that nobody has read, by its place among those that arrived.
+#[derive(Clone, Copy)]
+pub struct Unread(Message);
+
+impl Held for Unread {
+    const MOST: usize = MOST_MAILS;
+
+    fn of(view: View<'_>, slot: usize, i: usize) -> Option<Self> {
+        let mail = view.at(ARRIVAL, i) as usize;
+        if (view.head(ARRIVED) <= i as u64) | (stored(view.at(MAIL_OWNER, mail)) != Some(slot)) {
+            return None;
+        }
+        let e = stored(view.at(MAIL_DATA, mail))?;
+        Some(Unread(Message::new(view, e)))
     }
-    say(rt, b", every ")?;
-    time(rt, interval)
 }
 
-// A link: the partner is at the end where the track is not.
-fn link_line(rt: &impl Print, t: &[u64], up: u64, i: u64) -> io::Result<()> {
-    say(rt, b"link with ")?;
-    let one = at(t, LINK_ONE, i);
-    if one == up {
-        return number(rt, track_up(t, at(t, LINK_TWO, i)));
+impl fmt::Display for Unread {
+    fn fmt<W: fmt::Write>(&self, f: &mut fmt::Formatter<W>) -> fmt::Result {
+        let message = self.0;
+        write!(f, "unread: {message}")
     }
-    number(rt, track_up(t, one))
 }
 
-fn monitor(rt: &impl Print, t: &[u64], i: u64) -> io::Result<()> {
-    say(rt, b"monitor ")?;
-    number(rt, monitor_id(at(t, MONITOR_AGE, i), i))
-}
+// The message in hand.
+#[derive(Clone, Copy)]
+pub struct InHand(Message);
 
-fn monitor_on_line(rt: &impl Print, t: &[u64], i: u64) -> io::Result<()> {
-    monitor(rt, t, i)?;
-    say(rt, b" on it, by ")?;
-    number(rt, track_up(t, at(t, WATCHER, i)))
-}
+impl Held for InHand {
+    const MOST: usize = 1;
 
-fn monitor_by_line(rt: &impl Print, t: &[u64], i: u64) -> io::Result<()> {
-    monitor(rt, t, i)?;
-    say(rt, b" by it, on ")?;
-    number(rt, track_up(t, at(t, WATCHED, i)))
-}
-
-// A subscription to bus b, and how much of what was published there it has not read.
-fn subscription_line(rt: &impl Print, t: &[u64], up: u64, b: u64) -> io::Result<()> {
-    say(rt, b"subscribed to bus ")?;
-    number(rt, b)?;
-    say(rt, b", ")?;
-    counted(
-        rt,
-        unread_on(t, b, seat_of(t, b, up)),
-        b" entry unread",
-        b" entries unread",
-    )
-}
-
-// The line of the i-th thing of a sort.
-fn line(rt: &impl Print, t: &[u64], p: &[u8], thing: Thing, up: u64, i: u64) -> io::Result<()> {
-    say(rt, b"  ")?;
-    match thing {
-        Thing::Unread => unread_line(rt, t, p, i)?,
-        Thing::Timer => timer_line(rt, t, i)?,
-        Thing::Link => link_line(rt, t, up, i)?,
-        Thing::MonitorOn => monitor_on_line(rt, t, i)?,
-        Thing::MonitorBy => monitor_by_line(rt, t, i)?,
-        Thing::Subscription => subscription_line(rt, t, up, i)?,
-        _ => {}
+    fn of(view: View<'_>, slot: usize, _i: usize) -> Option<Self> {
+        let e = stored(view.at(HAND, slot))?;
+        Some(InHand(Message::new(view, e)))
     }
-    end_line(rt)
+}
+
+impl fmt::Display for InHand {
+    fn fmt<W: fmt::Write>(&self, f: &mut fmt::Formatter<W>) -> fmt::Result {
+        let message = self.0;
+        write!(f, "in hand: {message}")
+    }
+}
+
+// A timer: its id, when it is due, how often (0: once).
+#[derive(Clone, Copy)]
+pub struct Timer {
+    id: u64,
+    due: Time,
+    interval: Time,
+}
+
+impl Held for Timer {
+    const MOST: usize = MOST_TIMERS;
+
+    fn of(view: View<'_>, slot: usize, i: usize) -> Option<Self> {
+        if stored(view.at(TIMER_OWNER, i)) != Some(slot) {
+            return None;
+        }
+        Some(Timer {
+            id: id_of(view.at(TIMER_AGE, i), TIMER_FACTOR, i),
+            due: Time(view.at(DUE, i)),
+            interval: Time(view.at(INTERVAL, i)),
+        })
+    }
+}
+
+impl fmt::Display for Timer {
+    fn fmt<W: fmt::Write>(&self, f: &mut fmt::Formatter<W>) -> fmt::Result {
+        let Timer { id, due, interval } = *self;
+        write!(f, "timer {id}, due at {due}, ")?;
+        if interval.0 == 0 {
+            f.write_str("once")
+        } else {
+            write!(f, "every {interval}")
+        }
+    }
+}
+
+// The id of the track at the other end of entry i of two columns, where the track in a slot is at this end.
+fn partner(view: View<'_>, slot: usize, i: usize, here: usize, there: usize) -> Option<u64> {
+    if stored(view.at(here, i)) != Some(slot) {
+        return None;
+    }
+    view.stored_track(view.at(there, i))
+}
+
+// A link, by the partner: the end where the track is not.
+#[derive(Clone, Copy)]
+pub struct Link {
+    partner: u64,
+}
+
+impl Held for Link {
+    const MOST: usize = MOST_LINKS;
+
+    fn of(view: View<'_>, slot: usize, i: usize) -> Option<Self> {
+        let two = partner(view, slot, i, LINK_ONE, LINK_TWO);
+        let one = partner(view, slot, i, LINK_TWO, LINK_ONE);
+        let partner = two.or(one)?;
+        Some(Link { partner })
+    }
+}
+
+impl fmt::Display for Link {
+    fn fmt<W: fmt::Write>(&self, f: &mut fmt::Formatter<W>) -> fmt::Result {
+        let partner = self.partner;
+        write!(f, "link with {partner}")
+    }
+}
+
+// The id of the monitor in a slot.
+fn monitor_id(view: View<'_>, i: usize) -> u64 {
+    id_of(view.at(MONITOR_AGE, i), MONITOR_FACTOR, i)
+}
+
+// A monitor on the track, and by whom.
+#[derive(Clone, Copy)]
+pub struct MonitorOn {
+    id: u64,
+    watcher: u64,
+}
+
+impl Held for MonitorOn {
+    const MOST: usize = MOST_MONITORS;
+
+    fn of(view: View<'_>, slot: usize, i: usize) -> Option<Self> {
+        let watcher = partner(view, slot, i, WATCHED, WATCHER)?;
+        let id = monitor_id(view, i);
+        Some(MonitorOn { id, watcher })
+    }
+}
+
+impl fmt::Display for MonitorOn {
+    fn fmt<W: fmt::Write>(&self, f: &mut fmt::Formatter<W>) -> fmt::Result {
+        let MonitorOn { id, watcher } = *self;
+        write!(f, "monitor {id} on it, by {watcher}")
+    }
+}
+
+// A monitor by the track, and on whom.
+#[derive(Clone, Copy)]
+pub struct MonitorBy {
+    id: u64,
+    watched: u64,
+}
+
+impl Held for MonitorBy {
+    const MOST: usize = MOST_MONITORS;
+
+    fn of(view: View<'_>, slot: usize, i: usize) -> Option<Self> {
+        let watched = partner(view, slot, i, WATCHER, WATCHED)?;
+        let id = monitor_id(view, i);
+        Some(MonitorBy { id, watched })
+    }
+}
+
+impl fmt::Display for MonitorBy {
+    fn fmt<W: fmt::Write>(&self, f: &mut fmt::Formatter<W>) -> fmt::Result {
+        let MonitorBy { id, watched } = *self;
+        write!(f, "monitor {id} by it, on {watched}")
+    }
+}
+
+// A subscription to a bus, and how much of what was published there it has not read.
+#[derive(Clone, Copy)]
+pub struct Subscription {
+    bus: usize,
+    unread: usize,
+}
+
+// The seat of a slot on bus b.
+fn seat_of(view: View<'_>, b: usize, slot: usize) -> Option<usize> {
+    view.seats(b)
+        .iter()
+        .position(|seat| stored(*seat) == Some(slot))
+}
+
+// May the one in a seat still read an entry with this mask?
+fn may_read(mask: u64, seat: usize) -> bool {
+    seat < MOST_SEATS && mask >> (MOST_SEATS + seat) & 1 == 1
+}
+
+// How many entries of bus b the one in a seat may still read.
+fn unread_on(view: View<'_>, b: usize, seat: usize) -> usize {
+    (0..MOST_DATAS)
+        .filter(|e| {
+            stored(view.at(VALUE_BUS, *e)) == Some(b) && may_read(view.at(READERS, *e), seat)
+        })
+        .count()
+}
+
+impl Held for Subscription {
+    const MOST: usize = MOST_BUSES;
+
+    fn of(view: View<'_>, slot: usize, b: usize) -> Option<Self> {
+        let seat = seat_of(view, b, slot)?;
+        Some(Subscription {
+            bus: b,
+            unread: unread_on(view, b, seat),
+        })
+    }
+}
+
+impl fmt::Display for Subscription {
+    fn fmt<W: fmt::Write>(&self, f: &mut fmt::Formatter<W>) -> fmt::Result {
+        let bus = self.bus;
+        let entries = Counted(self.unread as u64, "entry", "entries");
+        write!(f, "subscribed to bus {bus}, {entries} unread")
+    }
 }
 
 // A line for each thing of a sort in the name of a track. Were there any?
-fn each(rt: &impl Print, t: &[u64], p: &[u8], thing: Thing, up: u64) -> io::Result<bool> {
+fn each<H: Held>(rt: &impl Print, view: View<'_>, slot: usize) -> io::Result<bool> {
     let mut any = false;
-    for i in 0..256 {
-        if is_its(t, thing, up, i) {
-            line(rt, t, p, thing, up, i)?;
+    for i in 0..H::MOST {
+        if let Some(held) = H::of(view, slot, i) {
+            println!(rt; "  {held}")?;
             any = true;
         }
     }
     Ok(any)
 }
 
-// The message in hand. Was there one?
-fn in_hand(rt: &impl Print, t: &[u64], p: &[u8], slot: u64) -> io::Result<bool> {
-    let up = at(t, HAND, slot);
-    if up == 0 {
-        return Ok(false);
-    }
-    say(rt, b"  in hand: ")?;
-    message(rt, t, p, up - 1)?;
-    end_line(rt)?;
-    Ok(true)
-}
-
 // All that is in the name of the track in a slot.
-pub fn in_its_name(rt: &impl Print, t: &[u64], p: &[u8], slot: u64) -> io::Result<()> {
-    let up = one_up(slot);
-    let unread = each(rt, t, p, Thing::Unread, up)?;
-    let hand = in_hand(rt, t, p, slot)?;
-    let timers = each(rt, t, p, Thing::Timer, up)?;
-    let links = each(rt, t, p, Thing::Link, up)?;
-    let watchers = each(rt, t, p, Thing::MonitorOn, up)?;
-    let watched = each(rt, t, p, Thing::MonitorBy, up)?;
-    let subscribed = each(rt, t, p, Thing::Subscription, up)?;
-    if (unread | hand) | (timers | links) | (watchers | watched) | subscribed {
+pub fn in_its_name(rt: &impl Print, view: View<'_>, slot: usize) -> io::Result<()> {
+    let unread = each::<Unread>(rt, view, slot)?;
+    let hand = each::<InHand>(rt, view, slot)?;
+    let timers = each::<Timer>(rt, view, slot)?;
+    let links = each::<Link>(rt, view, slot)?;
+    let watchers = each::<MonitorOn>(rt, view, slot)?;
+    let watched = each::<MonitorBy>(rt, view, slot)?;
+    let subscribed = each::<Subscription>(rt, view, slot)?;
+    if unread | hand | timers | links | watchers | watched | subscribed {
         return Ok(());
     }
-    say(rt, b"  nothing\n")
+    println!(rt; "  nothing")
 }

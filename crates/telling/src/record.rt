@@ -1,68 +1,85 @@
-// The numbers of a record.
+// The record of a call: its kind, its numbers, and what was answered.
 use records::bytes::{load16, load64};
+use std::fmt;
+use trace::kind::Kind;
 
-// The kinds that are looked at.
-pub const START: u16 = 16;
+// The length and the kind come first; then numbers of eight bytes.
+const FRAME: usize = 4;
 
-pub const SPAWN: u16 = 17;
-
-pub const NOTIFY: u16 = 20;
-
-pub const AFTER: u16 = 24;
-
-pub const EVERY: u16 = 25;
-
-pub const LINK: u16 = 27;
-
-pub const UNLINK: u16 = 28;
-
-pub const MONITOR: u16 = 29;
-
-pub const EXIT: u16 = 31;
-
-pub const BUS: u16 = 34;
-
-pub const PUBLISH: u16 = 35;
-
-pub const SUBSCRIBE: u16 = 36;
-
-pub const READ: u16 = 38;
-
-// Where the first number lies; numbers are of eight bytes.
-pub const FIRST: usize = 4;
-
-// The number at a place, 0 where there is none.
-pub fn number_at(r: &[u8], from: usize) -> u64 {
-    if 65_536 < from {
-        return 0;
-    }
-    if from + 8 <= r.len() {
-        return load64(r, from);
-    }
-    0
+// Record n of a trace.
+#[derive(Clone, Copy)]
+pub struct Record<'a> {
+    pub n: u64,
+    pub kind: Kind,
+    bytes: &'a [u8],
 }
 
-pub fn kind_of(r: &[u8]) -> u16 {
-    if r.len() < 4 {
-        return 0;
-    }
-    load16(r, 2)
+// Why a call was refused: the answers that have a meaning here, and any other.
+#[derive(Clone, Copy, PartialEq, Eq)]
+pub enum Refusal {
+    Malformed,
+    NoRoom,
+    NoTrack,
+    NoneRuns,
+    Other(u64),
 }
 
-// The last number.
-fn last(r: &[u8]) -> u64 {
-    if r.len() < 8 {
-        return 0;
+impl fmt::Display for Refusal {
+    fn fmt<W: fmt::Write>(&self, f: &mut fmt::Formatter<W>) -> fmt::Result {
+        match *self {
+            Refusal::Malformed => f.write_str("1, malformed"),
+            Refusal::NoRoom => f.write_str("2"),
+            Refusal::NoTrack => f.write_str("3, no such track"),
+            Refusal::NoneRuns => f.write_str("4, no track is running"),
+            Refusal::Other(no) => write!(f, "{no}"),
+        }
     }
-    number_at(r, r.len() - 8)
 }
 
-// The answer: after the eight numbers of a start, after the text of a notify or a publish, after the four numbers of a bus, the two of a read, the one of the others.
-pub fn answer_of(r: &[u8], kind: u16) -> u64 {
-    match kind {
-        START | NOTIFY | PUBLISH => last(r),
-        BUS => number_at(r, FIRST + 32),
-        READ => number_at(r, FIRST + 16),
-        _ => number_at(r, FIRST + 8),
+impl<'a> Record<'a> {
+    // Of these bytes; none where they have no kind.
+    pub fn new(n: u64, bytes: &'a [u8]) -> Option<Self> {
+        if bytes.len() < FRAME {
+            return None;
+        }
+        let kind = Kind::try_from(load16(bytes, 2)).ok()?;
+        Some(Record { n, kind, bytes })
+    }
+
+    // The number that begins at a byte; 0 where there is none.
+    fn number_from(self, byte: usize) -> u64 {
+        match self.bytes.get(byte..) {
+            Some(rest) if 8 <= rest.len() => load64(rest, 0),
+            _ => 0,
+        }
+    }
+
+    // Number i, of those before any text.
+    pub fn number(self, i: u8) -> u64 {
+        self.number_from(FRAME + 8 * usize::from(i))
+    }
+
+    // The number of the answer, of a call that can be told: the last, after a start's eight numbers and after the text of a notify or a publish;
+    // else it is after the four numbers of a bus, or the one of the others.
+    fn answered(self) -> u64 {
+        match self.kind {
+            Kind::Start | Kind::Notify | Kind::Publish => {
+                self.number_from(self.bytes.len().saturating_sub(8))
+            }
+            Kind::Bus => self.number(4),
+            _ => self.number(1),
+        }
+    }
+
+    // Was the call done, and why not?
+    pub fn answer(self) -> Result<(), Refusal> {
+        match self.answered() {
+            0 => Ok(()),
+            1 => Err(Refusal::Malformed),
+            2 => Err(Refusal::NoRoom),
+            3 => Err(Refusal::NoTrack),
+            4 => Err(Refusal::NoneRuns),
+            no => Err(Refusal::Other(no)),
+        }
     }
 }
