@@ -62,7 +62,8 @@ fn read(files: &[(&str, &str)], find: Find) -> Result<Numbers, String> {
         for pair in lines.windows(2) {
             let Some((name, sum)) = find(pair[0], pair[1]) else { continue };
             let wrong = |what: String| format!("{file}: {name} = {sum}: {what}");
-            let value = Sum { words: sum.split_whitespace().collect(), at: 0, known: &numbers }.all().map_err(wrong)?;
+            let spaced = sum.replace('(', "( ").replace(')', " )");
+            let value = Sum { words: spaced.split_whitespace().collect(), at: 0, known: &numbers }.all().map_err(wrong)?;
             if numbers.insert(plain(name), value).is_some() {
                 return Err(wrong("this name is there twice".to_string()));
             }
@@ -75,7 +76,7 @@ fn plain(name: &str) -> String {
     name.replace('-', "_")
 }
 
-/// A sum of numbers and names that are known already, with spaces around `+`, `-`, `*` and `^`.
+/// A sum of numbers and names that are known already, with spaces around `+`, `-`, `*`, `^` and `<<`; parentheses may stand in it.
 struct Sum<'a> {
     words: Vec<&'a str>,
     at: usize,
@@ -84,7 +85,7 @@ struct Sum<'a> {
 
 impl Sum<'_> {
     fn all(mut self) -> Result<i128, String> {
-        let value = self.sum()?;
+        let value = self.shift()?;
         match self.words.get(self.at) {
             None => Ok(value),
             Some(word) => Err(format!("what is \"{word}\" here?")),
@@ -96,6 +97,15 @@ impl Sum<'_> {
         let is = self.words.get(self.at) == Some(&word);
         self.at += usize::from(is);
         is
+    }
+
+    /// As in Rust, a shift comes after the sums on both its sides.
+    fn shift(&mut self) -> Result<i128, String> {
+        let mut value = self.sum()?;
+        while self.passes("<<") {
+            value <<= self.sum()?;
+        }
+        Ok(value)
     }
 
     fn sum(&mut self) -> Result<i128, String> {
@@ -128,6 +138,13 @@ impl Sum<'_> {
     }
 
     fn number(&mut self) -> Result<i128, String> {
+        if self.passes("(") {
+            let value = self.shift()?;
+            return if self.passes(")") { Ok(value) } else { Err("a parenthesis stays open".to_string()) };
+        }
+        if self.passes("u64::MAX") {
+            return Ok(i128::from(u64::MAX));
+        }
         let word = *self.words.get(self.at).ok_or("it ends too early")?;
         self.at += 1;
         let digits = word.replace('_', "");
