@@ -9,12 +9,14 @@ ghost use Rattle.tables.specs.Action.{write, blank};
 use crate::Caps;
 use crate::limits::ENTRY_BYTES;
 
-// The bytes of m over q.
+// The bytes of m over q. A loop, so that an archive for C needs no memmove from outside.
 pub fn copy(q: &mut [u8], from: usize, m: &[u8])
     requires { from + length m.now ≤ length q.old }
     ensures { q.new ≡ sets q.old from m.now }
 {
-    q[from..from + m.len()].copy_from_slice(m);
+    for i in 0..m.len() {
+        q[from + i] = m[i];
+    }
 }
 
 // n zeros over q.

@@ -6,7 +6,7 @@ use tables::columns::{BUS_SEATS, BUS_SIZE, VALUE_BUS};
 use tables::limits::MOST_BUSES;
 
 // How many data entries bus b has.
-fn entries_on(view: View<'_>, b: usize) -> usize {
+pub fn entries_on(view: View<'_>, b: usize) -> usize {
     view.column(VALUE_BUS)
         .iter()
         .filter(|bus| stored(**bus) == Some(b))
@@ -14,7 +14,7 @@ fn entries_on(view: View<'_>, b: usize) -> usize {
 }
 
 // How many subscribers bus b has.
-fn subscribers_of(view: View<'_>, b: usize) -> usize {
+pub fn subscribers_of(view: View<'_>, b: usize) -> usize {
     view.seats(b).iter().filter(|seat| **seat != 0).count()
 }
 

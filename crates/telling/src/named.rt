@@ -17,15 +17,28 @@ pub trait Held: fmt::Display + Drop {
     // There are no more of the sort.
     const MOST: usize;
 
-    // The i-th of the sort, where it is in the name of the track in a slot.
+    // Is the i-th of the sort in the name of the track in a slot?
+    fn is_in(view: View<'_>, slot: usize, i: usize) -> bool;
+
+    // The i-th of the sort, where it is.
     fn of(view: View<'_>, slot: usize, i: usize) -> Option<Self>;
 }
 
 // How many things of a sort are in the name of the track in a slot.
 pub fn count<H: Held>(view: View<'_>, slot: usize) -> usize {
     (0..H::MOST)
-        .filter(|i| H::of(view, slot, *i).is_some())
+        .filter(|i| H::is_in(view, slot, *i))
         .count()
+}
+
+// Does a column of owners name the track in a slot at place i?
+fn owns(view: View<'_>, slot: usize, owners: usize, i: usize) -> bool {
+    stored(view.at(owners, i)) == Some(slot)
+}
+
+// The mailbox entry that arrived as the i-th.
+fn arrival(view: View<'_>, i: usize) -> usize {
+    view.at(ARRIVAL, i) as usize
 }
 
 // A message that nobody has read, by its place among those that arrived.
@@ -35,12 +48,15 @@ pub struct Unread(Message);
 impl Held for Unread {
     const MOST: usize = MOST_MAILS;
 
+    fn is_in(view: View<'_>, slot: usize, i: usize) -> bool {
+        (i as u64) < view.head(ARRIVED) && owns(view, slot, MAIL_OWNER, arrival(view, i))
+    }
+
     fn of(view: View<'_>, slot: usize, i: usize) -> Option<Self> {
-        let mail = view.at(ARRIVAL, i) as usize;
-        if (view.head(ARRIVED) <= i as u64) | (stored(view.at(MAIL_OWNER, mail)) != Some(slot)) {
+        if !Self::is_in(view, slot, i) {
             return None;
         }
-        let e = stored(view.at(MAIL_DATA, mail))?;
+        let e = stored(view.at(MAIL_DATA, arrival(view, i)))?;
         Some(Unread(Message::new(view, e)))
     }
 }
@@ -58,6 +74,10 @@ pub struct InHand(Message);
 
 impl Held for InHand {
     const MOST: usize = 1;
+
+    fn is_in(view: View<'_>, slot: usize, _i: usize) -> bool {
+        view.at(HAND, slot) != 0
+    }
 
     fn of(view: View<'_>, slot: usize, _i: usize) -> Option<Self> {
         let e = stored(view.at(HAND, slot))?;
@@ -83,8 +103,12 @@ pub struct Timer {
 impl Held for Timer {
     const MOST: usize = MOST_TIMERS;
 
+    fn is_in(view: View<'_>, slot: usize, i: usize) -> bool {
+        owns(view, slot, TIMER_OWNER, i)
+    }
+
     fn of(view: View<'_>, slot: usize, i: usize) -> Option<Self> {
-        if stored(view.at(TIMER_OWNER, i)) != Some(slot) {
+        if !Self::is_in(view, slot, i) {
             return None;
         }
         Some(Timer {
@@ -109,7 +133,7 @@ impl fmt::Display for Timer {
 
 // The id of the track at the other end of entry i of two columns, where the track in a slot is at this end.
 fn partner(view: View<'_>, slot: usize, i: usize, here: usize, there: usize) -> Option<u64> {
-    if stored(view.at(here, i)) != Some(slot) {
+    if !owns(view, slot, here, i) {
         return None;
     }
     view.stored_track(view.at(there, i))
@@ -123,6 +147,10 @@ pub struct Link {
 
 impl Held for Link {
     const MOST: usize = MOST_LINKS;
+
+    fn is_in(view: View<'_>, slot: usize, i: usize) -> bool {
+        owns(view, slot, LINK_ONE, i) || owns(view, slot, LINK_TWO, i)
+    }
 
     fn of(view: View<'_>, slot: usize, i: usize) -> Option<Self> {
         let two = partner(view, slot, i, LINK_ONE, LINK_TWO);
@@ -140,7 +168,7 @@ impl fmt::Display for Link {
 }
 
 // The id of the monitor in a slot.
-fn monitor_id(view: View<'_>, i: usize) -> u64 {
+pub fn monitor_id(view: View<'_>, i: usize) -> u64 {
     id_of(view.at(MONITOR_AGE, i), MONITOR_FACTOR, i)
 }
 
@@ -153,6 +181,10 @@ pub struct MonitorOn {
 
 impl Held for MonitorOn {
     const MOST: usize = MOST_MONITORS;
+
+    fn is_in(view: View<'_>, slot: usize, i: usize) -> bool {
+        owns(view, slot, WATCHED, i)
+    }
 
     fn of(view: View<'_>, slot: usize, i: usize) -> Option<Self> {
         let watcher = partner(view, slot, i, WATCHED, WATCHER)?;
@@ -178,6 +210,10 @@ pub struct MonitorBy {
 impl Held for MonitorBy {
     const MOST: usize = MOST_MONITORS;
 
+    fn is_in(view: View<'_>, slot: usize, i: usize) -> bool {
+        owns(view, slot, WATCHER, i)
+    }
+
     fn of(view: View<'_>, slot: usize, i: usize) -> Option<Self> {
         let watched = partner(view, slot, i, WATCHER, WATCHED)?;
         let id = monitor_id(view, i);
@@ -200,7 +236,7 @@ pub struct Subscription {
 }
 
 // The seat of a slot on bus b.
-fn seat_of(view: View<'_>, b: usize, slot: usize) -> Option<usize> {
+pub fn seat_of(view: View<'_>, b: usize, slot: usize) -> Option<usize> {
     view.seats(b)
         .iter()
         .position(|seat| stored(*seat) == Some(slot))
@@ -212,7 +248,7 @@ fn may_read(mask: u64, seat: usize) -> bool {
 }
 
 // How many entries of bus b the one in a seat may still read.
-fn unread_on(view: View<'_>, b: usize, seat: usize) -> usize {
+pub fn unread_on(view: View<'_>, b: usize, seat: usize) -> usize {
     (0..MOST_DATAS)
         .filter(|e| {
             stored(view.at(VALUE_BUS, *e)) == Some(b) && may_read(view.at(READERS, *e), seat)
@@ -222,6 +258,10 @@ fn unread_on(view: View<'_>, b: usize, seat: usize) -> usize {
 
 impl Held for Subscription {
     const MOST: usize = MOST_BUSES;
+
+    fn is_in(view: View<'_>, slot: usize, b: usize) -> bool {
+        seat_of(view, b, slot).is_some()
+    }
 
     fn of(view: View<'_>, slot: usize, b: usize) -> Option<Self> {
         let seat = seat_of(view, b, slot)?;

@@ -60,13 +60,14 @@ impl<'a> Record<'a> {
     }
 
     // The number of the answer, of a call that can be told: the last, after a start's eight numbers and after the text of a notify or a publish;
-    // else it is after the four numbers of a bus, or the one of the others.
+    // else it is after the four numbers of a bus, the two of a read, or the one of the others.
     fn answered(self) -> u64 {
         match self.kind {
             Kind::Start | Kind::Notify | Kind::Publish => {
                 self.number_from(self.bytes.len().saturating_sub(8))
             }
             Kind::Bus => self.number(4),
+            Kind::Read => self.number(2),
             _ => self.number(1),
         }
     }

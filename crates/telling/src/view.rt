@@ -18,6 +18,12 @@ pub fn stored(word: u64) -> Option<usize> {
     (word as usize).checked_sub(1)
 }
 
+// Part i of a row, of parts of n each; empty where it is not there whole.
+fn part<T>(row: &[T], n: usize, i: usize) -> &[T] {
+    let from = i.saturating_mul(n);
+    row.get(from..from.saturating_add(n)).unwrap_or(&[])
+}
+
 // The id of what has a slot, or had it last, at an age.
 pub fn id_of(age: u64, factor: u64, slot: usize) -> u64 {
     age.saturating_mul(factor).saturating_add(slot as u64)
@@ -75,12 +81,12 @@ impl<'a> View<'a> {
 
     // The seats of bus b: in each the slot that has it.
     pub fn seats(self, b: usize) -> &'a [u64] {
-        self.column(SEAT).chunks(MOST_SEATS).nth(b).unwrap_or(&[])
+        part(self.column(SEAT), MOST_SEATS, b)
     }
 
     // The bytes of data entry e: its header and its payload.
     fn entry(self, e: usize) -> &'a [u8] {
-        self.p.chunks(ENTRY_BYTES).nth(e).unwrap_or(&[])
+        part(self.p, ENTRY_BYTES, e)
     }
 
     // The header of data entry e.
