@@ -12,7 +12,7 @@ ghost use Rattle.rules.specs.Good.{Going};
 ghost use Rattle.endings.specs.Counted.{Counted, Few, told_of};
 ghost use Rattle.endings.specs.Partners.{cut_entry};
 
-use crate::partners::partners;
+use crate::partners::note_partners;
 use actions::links::tie;
 use actions::messages::post;
 use actions::monitors::unwatch;
@@ -22,7 +22,7 @@ use records::header::pack;
 use rules::refusals::Notices;
 use tables::Caps;
 use tables::columns::{MONITOR_AGE, WATCHED, WATCHER};
-use tables::limits::MONITOR_FACTOR;
+use tables::limits::{MONITOR_FACTOR, MOST_ACTORS};
 use tables::words::get;
 
 // The class of an exit notice.
@@ -91,7 +91,8 @@ impl Leaver {
         requires { RoomWith k (Going k self.slot self.id) t.old p.old }
         ensures { Counted k (λ s. cut_links k self.slot self.id self.reason k.actors (told 0 0 s)) t.old p.old result t.new p.new × Few result MOST-ACTORS }
     {
-        let row = partners(t, p, k, self.slot + 1);
+        let mut row = [None; MOST_ACTORS];
+        note_partners(t, p, k, self.slot + 1, &mut row);
         let mut n = Notices::default();
         for b in 0..k.actors as u64 {
             n = self.cut_link(t, p, k, n, b, row[b as usize]);

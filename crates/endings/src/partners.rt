@@ -1,5 +1,5 @@
 // Which link joins a slot with each other one, found in one pass over the links: a place for each slot.
-ghost use Rattle.std.specs.Prelude.{◌≡◌, ◌≤◌, length};
+ghost use Rattle.std.specs.Prelude.{◌≡◌, ◌≤◌, None, length, replicate};
 ghost use Rattle.tables.specs.Columns.{LINK-ONE, LINK-TWO};
 ghost use Rattle.tables.specs.Limits.{MOST-ACTORS, MOST-LINKS};
 ghost use Rattle.tables.specs.State.{Room, Of};
@@ -34,29 +34,50 @@ fn note(row: &mut [Option<u8>; MOST_ACTORS], b: u64, e: u8)
     }
 }
 
-// Of the first n links those that slot x, which is one up, has with each slot.
-fn partners_in(one: &[u64], two: &[u64], x: u64, n: usize) -> [Option<u8>; MOST_ACTORS]
-    requires { (n ≤ MOST-LINKS) × (n ≤ length one.now) × (n ≤ length two.now) }
-    ensures { Partners one.now two.now x n result }
+// Of the first n links those that slot x, which is one up, has with each slot, in a row that is lent and has none.
+fn partners_in(
+    one: &[u64],
+    two: &[u64],
+    x: u64,
+    n: usize,
+    row: &mut [Option<u8>; MOST_ACTORS],
+)
+    requires { (n ≤ MOST-LINKS) × (n ≤ length one.now) × (n ≤ length two.now) × (row.old ≡ replicate MOST-ACTORS None) }
+    ensures { Partners one.now two.now x n row.new }
 {
-    let mut row = [None; MOST_ACTORS];
     for e in 0..n {
         if let Some(b) = other_end(one[e], two[e], x) {
-            note(&mut row, b, e as u8);
+            note(row, b, e as u8);
         }
     }
-    row
 }
 
-// The links that slot x, which is one up, has with each slot.
-pub fn partners(t: &[u64], p: &[u8], k: Caps, x: u64) -> [Option<u8>; MOST_ACTORS]
-    requires { Room k t.now p.now }
-    ensures { Of k (λ s. Partners (s LINK-ONE) (s LINK-TWO) x k.links result) t.now p.now }
+// The links that slot x, which is one up, has with each slot, in a row that is lent and has none.
+pub(crate) fn note_partners(
+    t: &[u64],
+    p: &[u8],
+    k: Caps,
+    x: u64,
+    row: &mut [Option<u8>; MOST_ACTORS],
+)
+    requires { Room k t.now p.now × (row.old ≡ replicate MOST-ACTORS None) }
+    ensures { Of k (λ s. Partners (s LINK-ONE) (s LINK-TWO) x k.links row.new) t.now p.now }
 {
     partners_in(
         column(t, p, k, LINK_ONE),
         column(t, p, k, LINK_TWO),
         x,
         k.links,
+        row,
     )
+}
+
+// The same row, made here.
+pub fn partners(t: &[u64], p: &[u8], k: Caps, x: u64) -> [Option<u8>; MOST_ACTORS]
+    requires { Room k t.now p.now }
+    ensures { Of k (λ s. Partners (s LINK-ONE) (s LINK-TWO) x k.links result) t.now p.now }
+{
+    let mut row = [None; MOST_ACTORS];
+    note_partners(t, p, k, x, &mut row);
+    row
 }

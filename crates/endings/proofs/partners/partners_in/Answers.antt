@@ -6,7 +6,9 @@ use Rattle.endings.proofs.partners.partners_in.Goals as goal
 use Rattle.endings.proofs.partners.partners_in.Goals.{in-Some, in_default}
 
 pub loop-e-init : goal.loop-e-init
-loop-e-init c = record { long = search rules; has = partners_none _ _ _ }
+loop-e-init c =
+    let e = c.requires.3 in
+    record { long = rw e (length-replicate MOST-ACTORS None); has = rw e (partners_none _ _ _) }
 
 pub loop-e-preserved : goal.loop-e-preserved
 loop-e-preserved c =
