@@ -8,6 +8,7 @@ use native.Mathlib.Omega.{arith}
 use lib.ListN.{length}
 use lib.Seq.{set_out, sets}
 use lib.Dec.{eqb, ltb}
+use borrow.Author.Count.{below_more}
 use borrow.Author.Tests.{eqb-true, ltb-true, ltb-false, lt-ltb, le-ltb, eq-eqb, ne_eqb}
 use Rattle.pools.specs.Pool.{lowest}
 use Rattle.pools.proofs.BoolLaws.{split}
@@ -22,17 +23,27 @@ use Rattle.rules.specs.Calls.{first_head}
 -- ---- the lowest
 -- a search for the lowest of N numbers that passes, which has found none below i; n is N, as the code has it
 pub record Searched (f : ℕ → Bool) (N n i : ℕ) : Type 0 where
+  pub within : i ≤ n
   pub all : n ≡ N
   pub none : (j : ℕ) → j < i → f j ≡ false
 
-module _ {f : ℕ → Bool} {N n i : ℕ} (s : Searched f N n i) where
-  -- i passes
-  pub search_hit : {b : Bool} → i < n → b ≡ f i → b ≡ true → i ≡ lowest f N
-  search_hit h e q = sym (lowest-found f i N (omega (arith, s.all)) (sym e ∙ q) s.none)
+module _ {f : ℕ → Bool} {N n : ℕ} where
+  -- at the first
+  pub search_start : n ≡ N → Searched f N n 0
+  search_start e = record { within = omega arith; all = e; none = λ j l. absurd (omega arith) }
 
-  -- none is left
-  pub search_miss : n ≤ i → n ≡ lowest f N
-  search_miss h = s.all ∙ sym (lowest_none f N (λ j l. s.none j (omega (arith, s.all))))
+  module _ {i : ℕ} (s : Searched f N n i) where
+    -- i does not pass
+    pub search_on : {b : Bool} → i < n → b ≡ f i → b ≡ false → Searched f N n (i + 1)
+    search_on h e q = record { within = omega arith; all = s.all; none = below_more (λ j. f j ≡ false) i s.none (sym e ∙ q) }
+
+    -- i passes
+    pub search_hit : {b : Bool} → i < n → b ≡ f i → b ≡ true → i ≡ lowest f N
+    search_hit h e q = sym (lowest-found f i N (omega (arith, s.all)) (sym e ∙ q) s.none)
+
+    -- none is left
+    pub search_miss : n ≤ i → n ≡ lowest f N
+    search_miss h = s.all ∙ sym (lowest_none f N (λ j l. s.none j (omega (arith, s.all))))
 
 -- ---- the least
 -- one turn of the search: entry n comes first, or it does not
@@ -80,10 +91,38 @@ pub record Ahead (s : State) (n first best i : ℕ) : Type 0 where
   pub none : LEVELS ≤ best → first ≡ n
   pub found : best < LEVELS → (first < i) × (level_of s first ≡ best) × ((j : ℕ) → j < first → best < level_of s j)
 
+-- before the first turn
+pub ahead-start : {s : State} {n : ℕ} → n ≡ head s QUEUED → Ahead s n n LEVELS 0
+ahead-start e = record { within = omega arith; all = e; above = omega arith; most = omega arith; least = λ j l. absurd (omega arith); none = λ l. refl; found = λ l. absurd (omega arith) }
+
 module _ {s : State} {n first best i : ℕ} (z : Ahead s n first best i) where
   -- the i-th is of the first level of all
   pub ahead_top : i < n → level_of s i ≡ 0 → i ≡ first_head s LEVELS
   ahead_top h e = sym (heads_first s i 0 (omega (arith, z.all)) e (λ j l. omega (arith, z.above, z.least j l)) (λ j l. omega arith) LEVELS (omega arith))
+
+  -- it is of a level before the best so far
+  pub ahead_better : {level : ℕ} → i < n → level ≡ level_of s i → 0 < level → level < best → Ahead s n i level (i + 1)
+  ahead_better {level} h e o l = record {
+    within = omega arith;
+    all = z.all;
+    above = o;
+    most = omega arith;
+    least = below_more (λ j. level ≤ level_of s j) i (λ j g. omega (arith, z.least j g)) (omega arith);
+    none = λ g. absurd (omega arith);
+    found = λ g. (omega arith, sym e, λ j g. omega (arith, z.least j g));
+  }
+
+  -- it is not
+  pub ahead_on : i < n → best ≤ level_of s i → Ahead s n first best (i + 1)
+  ahead_on h l = record {
+    within = omega arith;
+    all = z.all;
+    above = z.above;
+    most = z.most;
+    least = below_more (λ j. best ≤ level_of s j) i z.least l;
+    none = z.none;
+    found = λ g. (omega (arith, (z.found g).0), (z.found g).1, (z.found g).2);
+  }
 
   -- all were passed
   pub ahead-end : n ≤ i → first ≡ first_head s LEVELS

@@ -1,7 +1,7 @@
 -- What the loops and branches of the actions on buses turn on.
 use Prim.Native.Nat.{ℕ, suc, ◌+◌, ◌-◌, ◌≤◌, ◌<◌}
 use mathlib.Core.Path.{◌≡◌, refl, sym, ap, ◌∙◌}
-use mathlib.Core.Bool.{true, cond}
+use mathlib.Core.Bool.{true, false, cond}
 use mathlib.Core.List.{List}
 use native.Mathlib.Numerals.{add-one}
 use native.Mathlib.Omega.{arith}
@@ -43,6 +43,10 @@ module _ (s : State) (b a : ℕ) {seat : ℕ} (e : seat ≡ seat_of s b a) where
   -- it is subscribed
   pub unread-seated : {x : ℕ} → ltb seat MOST-SEATS ≡ true → x ≡ lowest (is_unread s b seat) (head s ISSUED) → x ≡ oldest_unread s b a
   unread-seated l h = rw (rw e at l) (rw e at h)
+
+  -- it is not
+  pub unread_none : {x : ℕ} → ltb seat MOST-SEATS ≡ false → x ≡ head s ISSUED → x ≡ oldest_unread s b a
+  unread_none l h = rw (rw e at l) h
 
 -- ---- a turn of a loop
 module _ (s : State) (b : ℕ) where
@@ -89,6 +93,10 @@ pub record Airs (k : Caps) (s u : State) (n : ℕ) : Type 0 where
   pub dated : Dated k u
   pub within : n ≤ head u ISSUED
   pub rest : airing n u ≡ aired s
+
+-- before the first turn
+pub airs_start : {k : Caps} {s : State} {n : ℕ} → Dated k s → n ≡ head s ISSUED → Airs k s s n
+airs_start z e = record { dated = z; within = omega arith; rest = rw e }
 
 -- one value less to look at
 airing-next : (s : State) (i : ℕ) → airing (suc i) s ≡ airing i (cond (is_stale s i) (retire s i) s)

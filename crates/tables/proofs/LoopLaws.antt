@@ -5,8 +5,8 @@ use native.Mathlib.Numerals.{add-one}
 use native.Mathlib.Omega.{arith}
 use mathlib.Core.Path.{◌≡◌, refl, sym, ap, ◌∙◌}
 use mathlib.Core.List.{List, [], ◌∷◌, ◌++◌, append-nil}
-use lib.ListN.{length, get_or, set, take, drop, replicate, length-append, length-set, length-take, length-drop, drop_of_length-le, length-replicate, replicate-append-replicate}
-use lib.Seq.{length-take-le, take_all, take-length, drop-length, take-suc, drop-cons, append_snoc, get_or-set_same, get_or-set_other, take-set-lt, drop-set-add, get_or-take, get_or-drop, ext_get_or, set_at, sets, length-sets, sets-eq, paste}
+use lib.ListN.{length, get_or, set, take, drop, replicate, length-append, length-set, length-take, length-drop, take-append-drop, drop_of_length-le, length-replicate, replicate-append-replicate}
+use lib.Seq.{length-take-le, take_all, take-length, drop-length, take-suc, drop-cons, append_snoc, get_or-append-add, get_or-set_same, get_or-set_other, take-set-lt, drop-set-add, get_or-take, get_or-drop, ext_get_or, set_at, take_at, sets, length-sets, sets-eq, paste, paste-suc}
 use Rattle.std.specs.List.{copy_within}
 use Rattle.std.proofs.lemmas.Slice.{put_mid-paste}
 use borrow.Rule.Slice.PartMut.{put_mid}
@@ -84,7 +84,34 @@ copy-turn l a m i h =
 pub zero_turn : (l : List ℕ) (a i : ℕ) → set (sets l a (replicate i 0)) (a + i) 0 ≡ sets l a (replicate (i + 1) 0)
 zero_turn l a i = rw (← replicate-append-replicate {A = ℕ} i 1 0, sets_append l a (replicate i 0) (0 ∷ []), length-replicate {A = ℕ} i 0)
 
+-- ---- a list s written over d from the front: after i turns
+abbrev pub part : List ℕ → List ℕ → ℕ → List ℕ
+part s d i = take i s ++ drop i d
+
+module _ (s d : List ℕ) where
+  -- a turn
+  pub part-turn : (i : ℕ) → i < length s → i < length d → set (part s d i) i (get_or s i 0) ≡ part s d (i + 1)
+  part-turn i h g = rw add-one (simp zero-add at (paste-suc d 0 s i 0 (rw zero-add g) h))
+
+  -- what it has not reached is as it was
+  pub part_rest : (i m : ℕ) → i ≤ m → i ≤ length s → get_or (part s d i) m 0 ≡ get_or d m 0
+  part_rest i m l h =
+      let e : m ≡ length (take i s) + (m - i) = omega (arith, length-take-le i s h) in
+      let f : i + (m - i) ≡ m = omega arith in
+      ap (λ (x : ℕ). get_or (part s d i) x 0) e ∙ get_or-append-add (take i s) (drop i d) (m - i) 0 ∙ get_or-drop i d (m - i) 0 ∙ ap (λ (x : ℕ). get_or d x 0) f
+
+  -- its last store, where s is one shorter than d
+  pub part-last : (v n : ℕ) → length s ≡ n → length d ≡ n + 1 → set (part s d n) n v ≡ s ++ (v ∷ [])
+  part-last v n e f =
+      let t : take n s ≡ s = take_all n s (omega arith) in
+      let o : drop n d ≡ get_or d n 0 ∷ [] = drop-cons d n 0 (omega arith) ∙ ap (λ (l : List ℕ). get_or d n 0 ∷ l) (drop_of_length-le d {i = suc n} (omega arith)) in
+      rw (t, o) (set_at s (get_or d n 0) [] v n e)
+
 -- ---- a list that closes up over its j-th
+-- before the first turn
+pub part_without : (l : List ℕ) (j : ℕ) → j < length l → l ≡ part (without j l) l j
+part_without l j h = sym (rw (take_at (take j l) (drop (suc j) l) j (length-take-le j l (omega arith))) (take-append-drop j l))
+
 -- all words of a list
 pub closed_all : (l : List ℕ) (j : ℕ) → closed (length l) j l ≡ without j l ++ (0 ∷ [])
 closed_all l j = rw (take-length l, drop-length l)
