@@ -26,7 +26,9 @@ fn close_up(q: &mut [u64], j: usize)
     ensures { q.new ≡ closed (length q.old) j q.old }
 {
     let last = q.len() - 1;
-    q.copy_within(j + 1.., j);
+    for i in j..last {
+        q[i] = q[i + 1];
+    }
     q[last] = 0;
 }
 

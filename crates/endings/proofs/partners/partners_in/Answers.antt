@@ -1,7 +1,9 @@
 -- The row has the links below e.
 use mathlib.Core.Path.{sym, ◌∙◌}
 use Rattle.endings.proofs.PartnerLaws.{partners_none, partners-more, partners-same}
-use borrow.Author.Rules.{rules}
+use lib.ListN.{length-replicate}
+use Rattle.std.specs.Prelude.{None}
+use Rattle.tables.specs.Limits.{MOST-ACTORS}
 use Rattle.endings.proofs.partners.partners_in.Goals as goal
 use Rattle.endings.proofs.partners.partners_in.Goals.{in-Some, in_default}
 

@@ -39,13 +39,13 @@ loop-b-preserved c =
     let d = c.cut_link-n in
     let w = c.loop-b-test.true in
     let l = c.loop-b in
-    let q = c.partners-row in
+    let q = c.note_partners.new.row in
     let a = c.args in
     let v = view a.k a.t.now a.p.now in
     let u = told_of l.n (view a.k l.t l.p) in
-    let h : Partners (v LINK-ONE) (v LINK-TWO) (suc a.self.slot) a.k.links q.result = rw (add-one a.self.slot) at q.ensures in
+    let h : Partners (v LINK-ONE) (v LINK-TWO) (suc a.self.slot) a.k.links q = rw (add-one a.self.slot) at c.note_partners.ensures in
     let o : l.b < MOST-ACTORS = omega (arith, w, c.requires.0.caps.few_actors) in
-    let r : cut_link a.k a.self.slot a.self.id a.self.reason l.b u ≡ cut_entry a.k a.self.id a.self.reason l.b (get_or q.result l.b None) u = rw l.invariant.1 (cut-row a.k a.self.slot a.self.id a.self.reason l.b v q.result c.requires.1 h o) in
+    let r : cut_link a.k a.self.slot a.self.id a.self.reason l.b u ≡ cut_entry a.k a.self.id a.self.reason l.b (get_or q l.b None) u = rw l.invariant.1 (cut-row a.k a.self.slot a.self.id a.self.reason l.b v q c.requires.1 h o) in
     let m = rw r at (link_more a.k a.self.slot a.self.id a.self.reason u l.b) in (
       d.ensures.left.room,
       rw (links-step a.k a.self.slot a.self.id a.self.reason (told 0 0 v) l.b, ← l.invariant.1, r) (tells_told d.ensures),
