@@ -1,5 +1,6 @@
 -- The rules of a mailbox entry with its owner's filter, and where the filters and the pairs stand among the others.
 use Prim.Native.Nat.{ℕ, ◌+◌, ◌-◌, ◌*◌, ◌/◌, ◌≤◌, ◌<◌, min}
+use native.Mathlib.Decide.{dec_lt}
 use native.Mathlib.Omega.{arith}
 use mathlib.Core.Path.{◌≡◌, refl, sym, ◌∙◌}
 use mathlib.Core.List.{List}
@@ -7,10 +8,11 @@ use mathlib.Core.Bool.{Bool, true, false, not, ◌&&◌, ◌||◌}
 use lib.Bits.{bit_or}
 use lib.Dec.{eqb, leb}
 use lib.ListN.{get_or}
-use borrow.Author.Tests.{eq-eqb, not-true}
+use borrow.Author.Tests.{eq-eqb, le-leb, not-true}
 use Rattle.pools.specs.Bits.{bit, free}
 use Rattle.pools.proofs.BoolLaws.{true_false, and_right}
 use Rattle.rules.specs.Rule.{Rule, test, each, both, imp, le, eq}
+use Rattle.rules.proofs.Kept.Rules.{all_more, reads}
 use Rattle.rules.specs.Sound.{arrival_rule, box_rule, plain_rules, across_rules}
 use Rattle.rules.specs.Terms.{WAITS, alive, awaits}
 use Rattle.sound.specs.Kinds.{keep_rule, kept_rule, front_rules, filter_rules, count_rules, early_rules, body_rules}
@@ -53,6 +55,21 @@ module _ (k : Caps) (s : State) (e : ℕ) where
   kept_free f = or-test (at s MAIL-OWNER e) (at s MAIL-DATA e) ∙ spare (eqb (at s MAIL-OWNER e) 0 && eqb (at s MAIL-DATA e) 0) _ _ _ f
 
 -- ---- runs of entries
+-- those below a, and then those from a on
+pub each_on : (f : ℕ → Rule) (a b : ℕ) → a ≤ b → test (each a f) && test (each b (λ e. imp (le a e) (f e))) ≡ test (each b f)
+each_on f a b h =
+    same_rule (each b f) (both (each a f) (each b (λ e. imp (le a e) (f e))))
+    (λ q. (λ e l. q e (omega arith), λ e l m. q e l))
+    (λ q e l. elim (dec_lt e a) [ yes m ↦ q.0 e m | no m ↦ q.1 e l (omega arith) ])
+
+-- one more of those from a on
+pub each_next : (f : ℕ → Rule) (a i : ℕ) → a ≤ i → test (each i (λ e. imp (le a e) (f e))) && test (f i) ≡ test (each (i + 1) (λ e. imp (le a e) (f e)))
+each_next f a i h = sym (all_more (λ e. test (imp (le a e) (f e))) i ∙ rw (le-leb a i h))
+
+-- none of those from a on is below a
+pub each-past : (f : ℕ → Rule) (a : ℕ) → true ≡ test (each a (λ e. imp (le a e) (f e)))
+each-past f a = sym ((reads (each a (λ e. imp (le a e) (f e)))).1 (λ e l m. absurd (omega arith)))
+
 -- one after the other, all of them
 pub runs_of : (f : ℕ → Rule) (n w : ℕ) → n ≤ 64 * w → test (each w (λ j. each (min n (64 * j + 64)) (λ e. imp (le (64 * j) e) (f e)))) ≡ test (each n f)
 runs_of f n w b =

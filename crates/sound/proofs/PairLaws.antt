@@ -1,10 +1,11 @@
 -- The square of marks: what two marks more say of the pairs of links.
-use Prim.Native.Nat.{ℕ, suc, ◌+◌, ◌-◌, ◌/◌, ◌%◌, ◌≤◌, ◌<◌}
+use Prim.Native.Nat.{ℕ, suc, ◌+◌, ◌-◌, ◌*◌, ◌/◌, ◌%◌, ◌≤◌, ◌<◌}
+use native.Mathlib.Nat.{mul-le-mul}
 use native.Mathlib.Omega.{arith}
 use mathlib.Core.Path.{◌≡◌, refl, sym, ap, ap₂, ◌∙◌}
 use mathlib.Core.Bool.{Bool, true, false, not, ◌&&◌, ◌||◌}
 use mathlib.Core.List.{List}
-use lib.ListN.{length, get_or}
+use lib.ListN.{length, get_or, replicate, length-replicate}
 use lib.Dec.{eqb}
 use borrow.Author.Tests.{eqb-true, eqb-false, eq-eqb, ne_eqb}
 use Rattle.pools.specs.Bits.{WORD-BITS, free, released}
@@ -16,12 +17,28 @@ use Rattle.pools.proofs.SlotLaws.{id_one}
 use Rattle.rules.specs.Rule.{test}
 use Rattle.rules.specs.Terms.{joins}
 use Rattle.rules.proofs.Kept.Rules.{all_none, all_more}
-use Rattle.sound.specs.Pairs.{apart, place, Marked, Square}
-use Rattle.sound.specs.Standing.{Clear}
+use Rattle.sound.specs.Pairs.{apart, place, square_words, Marked, Square}
+use Rattle.sound.specs.Standing.{FEW-ACTORS, Clear}
 use Rattle.sound.specs.Ties.{pair_in}
 use Rattle.sound.proofs.JoinLaws.{twice}
+use Rattle.tables.specs.Limits.{MOST-ACTORS}
+use Rattle.tables.specs.Sizes.{COLUMN-BITS}
 
 -- ---- the squares
+-- of a box of few actors, and of any box
+pub square_few : Square FEW-ACTORS (square_words FEW-ACTORS)
+square_few = record { few = omega arith; holds = λ a b l m. omega arith }
+
+pub square_many : Square MOST-ACTORS (square_words MOST-ACTORS)
+square_many = record { few = omega arith; holds = λ a b l m. omega arith }
+
+-- of that many zeros
+pub square_of : {side words : ℕ} → Square side words → Square side (length (replicate {A = ℕ} words 0))
+square_of {side} {words} q = rw (length-replicate {A = ℕ} words 0) q
+
+-- the number of a row's first bit is small
+pub place-few : (side a : ℕ) → side ≤ COLUMN-BITS → a < side → a * side ≤ COLUMN-BITS * COLUMN-BITS
+place-few side a s l = mul-le-mul {n₂ = COLUMN-BITS} {m₂ = COLUMN-BITS} (omega arith) s
 
 -- ---- one bit more
 mark : (w : List ℕ) (x i : ℕ) → x / WORD-BITS < length w → free (released w x) i ≡ eqb i x || free w i

@@ -78,4 +78,6 @@ module _ {states row : List ℕ} (h : Standing states row) where
     live = λ word t. (leb-true 1 word (and_left (leb 1 word) (alive states (word - 1)) (sym (lives_in_lem word) ∙ t)), omega (arith, live_among word t));
   }
 
--- ---- a place past the row is free
+-- more places span it too
+pub spans_more : {n m : ℕ} {row : List ℕ} → n ≤ m → Spans n row → Spans m row
+spans_more l w = record { none = omega (arith, w.none); live = λ word t. let (up, below) = w.live word t in (up, omega (arith, below)) }

@@ -1,5 +1,5 @@
 -- Runs of zero bytes: as one number, one after the other, and two that meet.
-use Prim.Native.Nat.{ℕ, zero, suc, ◌+◌, ◌-◌, ◌≤◌, ◌<◌}
+use Prim.Native.Nat.{ℕ, zero, suc, ◌+◌, ◌-◌, ◌*◌, ◌≤◌, ◌<◌}
 use native.Mathlib.Omega.{arith}
 use native.Mathlib.Decide.{dec_lt}
 use mathlib.Core.Path.{◌≡◌, refl, sym, ap, ◌∙◌}
@@ -8,7 +8,7 @@ use mathlib.Core.List.{List, [], ◌∷◌}
 use lib.ListN.{get_or, length, take, drop, length-take, length-drop}
 use lib.Seq.{get_or-take, get_or-drop}
 use lib.Dec.{eqb}
-use borrow.Author.Tests.{eqb-true, eq-eqb}
+use borrow.Author.Tests.{eqb-true, eq-eqb, ne_eqb}
 use Rattle.records.specs.Bytes.{of_le, field}
 use Rattle.rules.specs.Rule.{all, test, both}
 use Rattle.rules.specs.Sound.{zeros}
@@ -31,6 +31,12 @@ field-zero k at s =
     sym (same_test (zeros s at k) (eqb (field k at s) 0)
     (λ h. eq-eqb (field k at s) 0 (first-zero k (drop at s) (λ i m. get_or-drop at s i 0 ∙ h i m)))
     (λ t i m. sym (get_or-drop at s i 0) ∙ sym (get_or-take k (drop at s) i 0 m) ∙ bytes-zero (take k (drop at s)) (eqb-true (field k at s) 0 t) i))
+
+-- two numbers joined to a larger one
+pub joint_zero : (x y : ℕ) → eqb (x + 4294967296 * y) 0 ≡ eqb x 0 && eqb y 0
+joint_zero zero zero = refl
+joint_zero zero (suc y) = ne_eqb (0 + 4294967296 * suc y) 0 (λ e. omega (arith, e)) ∙ sym (ne_eqb (suc y) 0 (λ e. omega arith))
+joint_zero (suc x) y = ne_eqb (suc x + 4294967296 * y) 0 (λ e. omega (arith, e)) ∙ sym (rw (ne_eqb (suc x) 0 (λ e. omega arith)))
 
 -- the bytes of a part, one by one
 pub run_of : (s : List ℕ) (at n : ℕ) → at + n ≤ length s → all (λ i. eqb (get_or (take (at + n - at) (drop at s)) i 0) 0) (length (take (at + n - at) (drop at s))) ≡ test (zeros s at n)

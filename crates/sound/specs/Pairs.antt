@@ -1,10 +1,16 @@
 -- The square of bits that the pairs of links are marked in: a row and a column for each slot below its side.
-use Rattle.std.specs.Prelude.{ℕ, suc, ◌-◌, ◌*◌, ◌/◌, ◌≤◌, ◌<◌, ◌≡◌, Bool, not, List, length}
+use Rattle.std.specs.Prelude.{ℕ, suc, ◌-◌, ◌*◌, ◌/◌, ◌≤◌, ◌<◌, ◌≡◌, Bool, cond, not, List, length, leb}
 use Rattle.pools.specs.Bits.{WORD-BITS, free, released}
 use Rattle.pools.specs.Slot.{id_of}
 use Rattle.rules.specs.Rule.{all}
 use Rattle.rules.specs.Terms.{joins}
+use Rattle.tables.specs.Limits.{MOST-ACTORS}
 use Rattle.tables.specs.Sizes.{COLUMN-BITS}
+use Rattle.sound.specs.Standing.{FEW-ACTORS}
+
+-- its side in a box of so many actors
+abbrev pub side_of : ℕ → ℕ
+side_of actors = cond (leb actors FEW-ACTORS) FEW-ACTORS MOST-ACTORS
 
 -- its words
 abbrev pub square_words : ℕ → ℕ

@@ -1,5 +1,5 @@
 -- How the slots stand, in a row that has them one up, as words name them, and what the test of the mailboxes is lent.
-use Rattle.std.specs.Prelude.{ℕ, suc, ◌+◌, ◌*◌, ◌≤◌, ◌<◌, ◌≡◌, Bool, true, not, List, get_or, eqb}
+use Rattle.std.specs.Prelude.{ℕ, suc, ◌+◌, ◌*◌, ◌≤◌, ◌<◌, ◌≡◌, Bool, true, cond, not, List, get_or, eqb, leb}
 use mir.Val.{bool_byte}
 use Rattle.rules.specs.Terms.{FREE, WAITS}
 use Rattle.tables.specs.Columns.{MAIL-DATA, MAIL-FREE, MAIL-OWNER, STATE}
@@ -14,6 +14,10 @@ FEW-PLACES = 128
 
 abbrev pub PLACES : ℕ
 PLACES = 512
+
+-- the places of such a row in a box of so many actors
+abbrev pub places : ℕ → ℕ
+places actors = cond (leb actors FEW-ACTORS) FEW-PLACES PLACES
 
 -- each place of a row is 0
 abbrev pub Clear : List ℕ → Type 0

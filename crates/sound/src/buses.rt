@@ -6,7 +6,7 @@ ghost use Rattle.rules.specs.Host.{Tests};
 ghost use Rattle.sound.specs.Buses.{settings_in, sitter_in, new_in, row_in, rows_in, Before, Seats, Told};
 ghost use Rattle.sound.specs.Kinds.{bus_rules};
 ghost use Rattle.sound.specs.Marks.{Below};
-ghost use Rattle.sound.specs.Standing.{PLACES, Clear, Spans, Standing};
+ghost use Rattle.sound.specs.Standing.{PLACES, Clear, Spans, Standing, places};
 ghost use Rattle.tables.specs.Columns.{STATE};
 ghost use Rattle.tables.specs.Limits.{MOST-ACTORS, MOST-BUSES, MOST-SEATS};
 ghost use Rattle.tables.specs.State.{RoomWith};
@@ -84,13 +84,14 @@ fn row_ok(row: &[u8], stamps: &mut [u8], stamp: u8, seats: &[u64], limit: u64) -
     false
 }
 
-// The seats of the first n buses and how many each may have, and the row that says how the slots stand.
+// The seats of the first n buses and how many each may have, the row that says how the slots stand, and how many actors the box is for.
 #[derive(Clone, Copy)]
 struct Seating<'a> {
     row: &'a [u8],
     seats: &'a [u64],
     limits: &'a [u64],
     n: usize,
+    actors: usize,
     ghost long: { Seats seats.now limits.now n },
 }
 
@@ -109,24 +110,24 @@ impl Seating<'_> {
         ok
     }
 
-    // The same, by stamps for n places that are made here.
+    // The same, by stamps for n places that are made here: as many as a box of so many actors gets.
     fn placed_ok<const N: usize>(&self) -> bool
-        requires { Spans N self.now.row.now × (N ≤ PLACES) }
+        requires { Spans N self.now.row.now × (N ≤ PLACES) × (N ≡ places self.now.actors) }
         ensures { result ≡ test (rows_in self.now.row.now self.now.seats.now self.now.limits.now self.now.n) }
     {
         let mut stamps = [0u8; N];
         self.stamped_ok(&mut stamps)
     }
 
-    // Those of a box of so many actors, by as many stamps as it asks for: none where no bus is made.
-    fn rows_ok(&self, actors: usize) -> bool
-        requires { Spans (suc actors) self.now.row.now × (actors ≤ MOST-ACTORS) }
+    // The same, by as many stamps as the box asks for: none where no bus is made.
+    fn rows_ok(&self) -> bool
+        requires { Spans (suc self.now.actors) self.now.row.now × (self.now.actors ≤ MOST-ACTORS) }
         ensures { result ≡ test (rows_in self.now.row.now self.now.seats.now self.now.limits.now self.now.n) }
     {
         if self.n == 0 {
             return true;
         }
-        if actors <= FEW_ACTORS {
+        if self.actors <= FEW_ACTORS {
             return self.placed_ok::<FEW_PLACES>();
         }
         self.placed_ok::<PLACES>()
@@ -146,8 +147,9 @@ fn rows(t: &[u64], p: &[u8], k: Caps, row: &[u8]) -> bool
         seats,
         limits,
         n,
+        actors: k.actors,
     };
-    let seated = made.rows_ok(k.actors);
+    let seated = made.rows_ok();
     let rest = zero_from(seats, MOST_SEATS * n, ALL_SEATS);
     seated & rest
 }

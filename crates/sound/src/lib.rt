@@ -6,7 +6,7 @@ ghost use Rattle.rules.specs.Rule.{both, test, Holds};
 ghost use Rattle.rules.specs.Sound.{range_rule, size_rule, fit_rule, caps_rule, head_rule, plain_rules, across_rules, sound_at, sound_rule};
 ghost use Rattle.rules.specs.Host.{Tests};
 ghost use Rattle.sound.specs.Kinds.{front_rules, bit_rules, box_rules, data_rules, time_rules, bus_rules, value_rules, filter_rules, pair_rules, issued_rules, count_rules, early_rules, body_rules};
-ghost use Rattle.sound.specs.Standing.{PLACES, Standing};
+ghost use Rattle.sound.specs.Standing.{PLACES, Standing, places};
 ghost use Rattle.tables.specs.Columns.{STATE};
 ghost use Rattle.tables.specs.State.{Room, RoomWith};
 
@@ -178,9 +178,9 @@ fn plain_ok(t: &[u64], p: &[u8], k: Caps, row: &[u8]) -> bool
     front_ok(t, p, k) && body_ok(t, p, k, row)
 }
 
-// The same, by a row of n places that is made here.
+// The same, by a row of n places that is made here: as many as a box of so many actors gets.
 fn early_in<const N: usize>(t: &[u64], p: &[u8], k: Caps) -> bool
-    requires { Room k t.now p.now × (k.actors < N) × (N ≤ PLACES) }
+    requires { Room k t.now p.now × (k.actors < N) × (N ≤ PLACES) × (N ≡ places k.actors) }
     ensures { Tests k (early_rules k) t.now p.now result }
 {
     let mut row = [0u8; N];

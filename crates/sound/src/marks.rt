@@ -180,6 +180,17 @@ impl Marks {
     }
 }
 
+// The same of a set that is lent as its words: the entries that a list names, one up, of which the first n words count, and the others are 0.
+pub fn marks_first(list: &[u64], n: usize, seen: &mut [u64; BIT_WORDS]) -> bool
+    requires { (n ≤ length list.now) × Below (suc COLUMN-BITS) (length list.now) list.now × Ended n list.now × (length seen.old ≡ BIT-WORDS) }
+    ensures { Added (λ d. occurs (suc d) list.now) result seen.old seen.new }
+{
+    let mut marks = Marks { bits: *seen };
+    let ok = marks.mark_first_up(list, n);
+    *seen = marks.bits;
+    ok
+}
+
 // The first n arrivals are marked in one set, and in another the data entries that the first n mailbox entries name, one up: the two chains of marks go side by side.
 fn mark_both(
     arrivals: &[u64],

@@ -4,7 +4,7 @@ ghost use Rattle.pools.specs.Slot.{id_of};
 ghost use Rattle.rules.specs.Rule.{test, both, each};
 ghost use Rattle.rules.specs.Sound.{interval_rule, link_rule, monitor_rule, pair_rule, timer_rule};
 ghost use Rattle.rules.specs.Host.{Tests};
-ghost use Rattle.sound.specs.Pairs.{PairSeen, Square, square_words};
+ghost use Rattle.sound.specs.Pairs.{PairSeen, Square, side_of, square_words};
 ghost use Rattle.sound.specs.Standing.{Clear, Spans, Standing};
 ghost use Rattle.sound.specs.Ties.{ends_in, links_in, monitor_in, timer_in, LinkSeen};
 ghost use Rattle.tables.specs.Columns.{STATE};
@@ -75,13 +75,14 @@ fn link_ok(row: &[u8], seen: &mut [u64], side: usize, one: u64, two: u64) -> boo
     false
 }
 
-// The words of the first n links, which name their ends, and the row that says how the slots stand.
+// The words of the first n links, which name their ends, the row that says how the slots stand, and how many actors the box is for.
 #[derive(Clone, Copy)]
 struct Ends<'a> {
     row: &'a [u8],
     one: &'a [u64],
     two: &'a [u64],
     n: usize,
+    actors: usize,
     ghost long: { (n ≤ length one.now) × (n ≤ length two.now) },
 }
 
@@ -98,24 +99,24 @@ impl Ends<'_> {
         ok
     }
 
-    // The same, in a square of n words that is made here.
+    // The same, in a square of n words that is made here: of the side that a box of so many actors gets, and no more words than it asks for.
     fn squared_ok<const N: usize>(&self, side: usize) -> bool
-        requires { Spans (suc side) self.now.row.now × Square side N × (N ≤ square_words MOST-ACTORS) }
+        requires { Spans (suc side) self.now.row.now × Square side N × (N ≤ square_words MOST-ACTORS) × (side ≡ side_of self.now.actors) × (N ≡ square_words side) }
         ensures { result ≡ test (links_in self.now.row.now self.now.one.now self.now.two.now self.now.n) }
     {
         let mut seen = [0u64; N];
         self.marked_ok(&mut seen, side)
     }
 
-    // Those of a box of so many actors. Where none is in use one OR tells, and no square is cleared; the square of a box of few is cheap to clear.
-    fn links_ok(&self, actors: usize) -> bool
-        requires { Spans (suc actors) self.now.row.now × (actors ≤ MOST-ACTORS) }
+    // The same, by the box. Where none is in use one OR tells, and no square is cleared; the square of a box of few is cheap to clear.
+    fn links_ok(&self) -> bool
+        requires { Spans (suc self.now.actors) self.now.row.now × (self.now.actors ≤ MOST-ACTORS) }
         ensures { result ≡ test (links_in self.now.row.now self.now.one.now self.now.two.now self.now.n) }
     {
         if zero_from(self.one, 0, self.n) {
             return zero_from(self.two, 0, self.n);
         }
-        if actors <= FEW_ACTORS {
+        if self.actors <= FEW_ACTORS {
             return self.squared_ok::<FEW_SQUARE>(FEW_ACTORS);
         }
         self.squared_ok::<SQUARE>(MOST_ACTORS)
@@ -132,8 +133,9 @@ pub fn links(t: &[u64], p: &[u8], k: Caps, row: &[u8]) -> bool
         one: column(t, p, k, LINK_ONE),
         two: column(t, p, k, LINK_TWO),
         n: k.links,
+        actors: k.actors,
     };
-    links.links_ok(k.actors)
+    links.links_ok()
 }
 
 // ---- monitors
