@@ -1,21 +1,24 @@
 -- The letters fit, and past them the zeros stay.
-use Rattle.std.proofs.Common.{rules, ◌≤◌, length}
-use Rattle.std.proofs.lemmas.Slice.{overwrites}
-use Rattle.records.proofs.ReasonLaws.{letters_fit, zeros_left}
+use Rattle.std.proofs.Common.{ℕ, ◌≡◌, ◌≤◌, ◌<◌, arith, length, replicate, sym, ◌∙◌}
+use lib.Seq.{take-length}
+use Rattle.records.specs.Reason.{letters}
+use Rattle.records.proofs.ReasonLaws.{letter_stored, letters_fit, zeros_left}
 use Rattle.records.proofs.reason.TextFromWord.from.Goals as goal
 
-pub slice_bounds-bytes-end : goal.slice_bounds-bytes-end
-slice_bounds-bytes-end c = rw c.name-name.ensures (letters_fit c.args.word)
+pub bounds-bytes-i : goal.bounds-bytes-i
+bounds-bytes-i c =
+    let fit : length c.as_bytes-letters.result.now ≤ 8 = rw (c.as_bytes-letters.ensures.value, c.name.ensures) (letters_fit c.args.word) in
+    omega (arith, fit, c.loop-i-test.true)
 
-pub slice_bounds-copy_from_slice-end : goal.slice_bounds-copy_from_slice-end
-slice_bounds-copy_from_slice-end c =
-    let fit : length c.name-name.result.now ≤ 8 = rw c.name-name.ensures (letters_fit c.args.word) in
-    search (rules, overwrites)
-
-pub copy_from_slice-requires : goal.copy_from_slice-requires
-copy_from_slice-requires c =
-    let fit : length c.name-name.result.now ≤ 8 = rw c.name-name.ensures (letters_fit c.args.word) in
-    search (rules, overwrites)
+pub loop-i-preserved : goal.loop-i-preserved
+loop-i-preserved c =
+    let l = c.loop-i in
+    let fit : length c.as_bytes-letters.result.now ≤ 8 = rw (c.as_bytes-letters.ensures.value, c.name.ensures) (letters_fit c.args.word) in
+    rw l.invariant (letter_stored c.as_bytes-letters.result.now (replicate {A = ℕ} 8 0) l.i (omega arith) (omega (arith, fit)))
 
 pub returns : goal.returns
-returns c = rw (c.copy_from_slice.ensures.after, c.as_bytes.ensures.value, c.name-name.ensures, zeros_left c.args.word)
+returns c =
+    let l = c.loop-i in
+    let s = c.as_bytes-letters.result.now in
+    let e : l.i ≡ length s = omega arith in
+    rw (l.invariant, e, take-length s, c.as_bytes-letters.ensures.value, c.name.ensures, zeros_left c.args.word)
