@@ -5,6 +5,7 @@ ghost use Rattle.trace.specs.Kinds.{asked};
 ghost use Rattle.judge.specs.Replayed.{OfKind, Replayed, is_first};
 
 use crate::answer::Recorded;
+use crate::buses::judge_read;
 use crate::each;
 use crate::forms::Form;
 use crate::start::judge_start;
@@ -44,7 +45,7 @@ fn later(t: &mut [u64], p: &mut [u8], r: &[u8], kind: Kind) -> bool
         Kind::Publish => each::publish(t, p, r),
         Kind::Subscribe => fg_subscribe(t, p, a).is_in(r, kind, &[a], b""),
         Kind::Unsubscribe => fg_unsubscribe(t, p, a).is_in(r, kind, &[a], b""),
-        Kind::Read => each::judge_read(t, p, r, a, load64(r, 12)),
+        Kind::Read => judge_read(t, p, r, a, load64(r, 12)),
     }
 }
 
