@@ -25,11 +25,11 @@ use Rattle.trace.specs.declared.kind.Kind.{Kind}
 use Rattle.trace.specs.declared.kind.Kind.TheVariants.{Start, Spawn, Next, Yield, Notify, Receive, Show, Shown, After, Every, Cancel, Link, Unlink, Monitor, Demonitor, Exit, Advance, Report, Bus, Publish, Subscribe, Unsubscribe, Read}
 use Rattle.trace.specs.Codec.{bytes, extent, formed, front_of, kind_of, numbers_in, text_length}
 use Rattle.trace.specs.Kind.{number}
-use Rattle.trace.specs.Kinds.{Asked, FIRST, Opening, asked, encode, kept, length_right, no_row, note_with, noted, nth, opening, opens, read_as, row_of, signed, stood}
+use Rattle.trace.specs.Kinds.{Asked, FIRST, asked, encode, kept, length_right, note_with, noted, nth, opening, opens, read_as, row_of, signed, stood}
 use Rattle.trace.specs.Kinds.Asked.{asks, begins, unknown}
 use Rattle.trace.specs.Verdict.{same}
-use Rattle.trace.proofs.KindLaws.{kept_none, unsigned_signed}
-use Rattle.trace.proofs.ReadLaws.{Plain, asked_as, asked-not, formed_long, nth_number, row_below, row-past}
+use Rattle.trace.proofs.KindLaws.{kept_none}
+use Rattle.trace.proofs.ReadLaws.{Plain, asked_as, asked-not, formed_long, nth_number}
 use Rattle.judge.specs.Replayed.{Begun, Judged, OfKind, Replayed, Unmoved, asks_for, sizes_of}
 use Rattle.judge.proofs.CallLaws.{judged-receive, judged_as}
 use Rattle.judge.proofs.FormLaws.{formed-short, no_kind, text_whole}
