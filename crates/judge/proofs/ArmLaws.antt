@@ -25,13 +25,14 @@ use Rattle.trace.specs.declared.kind.Kind.{Kind}
 use Rattle.trace.specs.declared.kind.Kind.TheVariants.{Start, Spawn, Next, Yield, Notify, Receive, Show, Shown, After, Every, Cancel, Link, Unlink, Monitor, Demonitor, Exit, Advance, Report, Bus, Publish, Subscribe, Unsubscribe, Read}
 use Rattle.trace.specs.Codec.{bytes, extent, formed, front_of, kind_of, numbers_in, text_length}
 use Rattle.trace.specs.Kind.{number}
-use Rattle.trace.specs.Kinds.{Asked, FIRST, Opening, asked, encode, kept, length_right, no_row, note_with, noted, nth, opening, opens, read_as, row_of, signed, stood}
+use Rattle.trace.specs.Kinds.{Asked, FIRST, asked, encode, kept, length_right, note_with, noted, nth, opening, opens, read_as, row_of, signed, stood}
 use Rattle.trace.specs.Kinds.Asked.{asks, begins, unknown}
 use Rattle.trace.specs.Verdict.{same}
-use Rattle.trace.proofs.KindLaws.{kept_none, unsigned_signed}
-use Rattle.trace.proofs.ReadLaws.{Plain, asked_as, asked-not, formed_long, nth_number, row_below, row-past}
+use Rattle.trace.proofs.KindLaws.{kept_none}
+use Rattle.trace.proofs.ReadLaws.{Plain, asked_as, asked-not, formed_long, nth_number}
 use Rattle.judge.specs.Replayed.{Begun, Judged, OfKind, Replayed, Unmoved, asks_for, sizes_of}
-use Rattle.judge.proofs.FormLaws.{formed-short, text_whole}
+use Rattle.judge.proofs.CallLaws.{judged-receive, judged_as}
+use Rattle.judge.proofs.FormLaws.{formed-short, no_kind, text_whole}
 
 -- ---- how long a record of a kind is
 pub kind_long : (k : ℕ) (r : List ℕ) → OfKind k r → 4 + 8 * (row_of k).shape.fore ≤ length r
@@ -91,19 +92,40 @@ whole_length k n r h a b e l =
     let t : text_length s (front_of s r) ≡ n = text_whole s r a b (rw (← e) l) ∙ sym e in
     omega arith
 
+-- the kind that is left, of those that were told apart
+abbrev pub Not : ℕ → ℕ → Type 0
+Not k j = k ≡ j → ⊥
+
+-- one more is told apart
+pub up : {j k : ℕ} → j ≤ k → Not k j → suc j ≤ k
+up l n = omega arith
+
+pub is_advance : (k : ℕ) → 24 ≤ k → k < 34 → Not k 33 → (((((((Unit {0} × Not k 24) × Not k 25) × Not k 26) × Not k 27) × Not k 28) × Not k 29) × Not k 30) × Not k 31 → k ≡ 32
+is_advance k a b n r =
+    let g : 32 ≤ k = let ((((((((_, n24), n25), n26), n27), n28), n29), n30), n31) = r in up (up (up (up (up (up (up (up a n24) n25) n26) n27) n28) n29) n30) n31 in
+    omega (arith, n)
+
+pub is_shown : (k : ℕ) → 17 ≤ k → k < 24 → (((((Unit {0} × Not k 17) × Not k 18) × Not k 19) × Not k 20) × Not k 21) × Not k 22 → k ≡ 23
+is_shown k a b r =
+    let g : 23 ≤ k = let ((((((_, n17), n18), n19), n20), n21), n22) = r in up (up (up (up (up (up a n17) n18) n19) n20) n21) n22 in
+    omega arith
+
+pub below : (k : ℕ) → k < 17 → Not k 16 → k < FIRST
+below k l n = omega arith
+
+-- how long the record of a message is, its payload whole or not
+pub message-length : (r : List ℕ) → OfKind 20 r → length r ≡ 36 + cond (leb (field 8 20 r) PAYLOAD-MOST) (field 8 20 r) 0
+unfolding formed row_of
+message-length r h =
+    let s = (row_of 20).shape in
+    let f : formed s r ≡ true = rw h.is at h.right in
+    let e : length r ≡ extent s (front_of s r) = eqb-true _ _ (and_left (eqb (length r) (extent s (front_of s r))) _ f) in
+    let n : nth (numbers_in 3 (drop 4 r)) 2 ≡ field 8 20 r = nth_number 3 2 4 r (omega arith) in
+    let t : text_length s (front_of s r) ≡ cond (leb (field 8 20 r) PAYLOAD-MOST) (field 8 20 r) 0 = rw n in
+    omega arith
+
 -- ---- what it asks for
--- one more number is told apart
-up : {j k : ℕ} → (j ≡ k → ⊥) → j ≤ k → suc j ≤ k
-up n l = omega arith
-
--- a number that is no kind's is in no row
-no_kind : (n : ℕ) → ((kind : Kind) → number kind ≡ n → ⊥) → row_of n ≡ no_row
-no_kind n h = split (leb FIRST n) (λ q. row-past n (past (leb-true FIRST n q))) (λ q. row_below n (leb-false FIRST n q))
-  where
-    past : 16 ≤ n → 39 ≤ n
-    past q = up (h Read) (up (h Unsubscribe) (up (h Subscribe) (up (h Publish) (up (h Bus) (up (h Report) (up (h Advance) (up (h Exit) (up (h Demonitor) (up (h Monitor) (up (h Unlink) (up (h Link) (up (h Cancel) (up (h Every) (up (h After) (up (h Shown) (up (h Show) (up (h Receive) (up (h Notify) (up (h Yield) (up (h Next) (up (h Spawn) (up (h Start) q))))))))))))))))))))))
-
--- and its record asks for nothing; nor does one that has not its kind's length
+-- a record of no kind's number asks for nothing; nor does one that has not its kind's length
 pub none_known : (n : ℕ) (r : List ℕ) → n ≡ kind_of r → ((kind : Kind) → number kind ≡ n → ⊥) → asked r ≡ unknown
 none_known n r e h =
     split (length_right r)
@@ -169,46 +191,47 @@ module _ {w p r w' p' : List ℕ} {b : Bool} where
   pub arrive : {o : Op} → asked r ≡ asks o → Judged o w p r b w' p' → Replayed (asked r) false w p r b w' p'
   arrive {o} e j = subst (λ (a : Asked). Replayed a false w p r b w' p') (sym e) j
 
-  -- one of a kind with no numbers
-  pub arrive_bare : (k : Kind) (o : Op) → read_as (row_of (number k)) r ≡ asks o → opening o ≡ opens (number k) [] o → {kind : Kind} {ans : Answer} → kind ≡ k → OfKind (number kind) r →
-      Meets (op o) w p ans w' p' → b ≡ same (bytes (note_with (number kind) [] [] ans)) r → Replayed (asked r) false w p r b w' p'
-  unfolding encode
-  arrive_bare k o e f {ans = ans} q h m i =
-      let n = ap number q in
-      arrive (asked_as r (number k) h.right (h.is ∙ n) ∙ e)
-      (record { ans = ans; called = m; is = i ∙ ap (λ (x : ℕ). same (bytes (note_with x [] [] ans)) r) n ∙ ap (λ (x : Opening). same (bytes (note_with x.kind x.numbers x.text ans)) r) (sym f) })
+  -- one with a kind that has no numbers, or of which none is read
+  pub arrive_bare : (k : ℕ) {kind : ℕ} {o : Op} → read_as (row_of k) r ≡ asks o → OfKind kind r → kind ≡ k → Judged o w p r b w' p' → Replayed (asked r) false w p r b w' p'
+  arrive_bare k e h i j = arrive (asked_as r k h.right (h.is ∙ i) ∙ e) j
 
-  -- one of a kind with one number
-  pub arrive_one : (k : Kind) (f : ℕ → Op) → read_as (row_of (number k)) r ≡ asks (f (field 8 4 r)) → ((x : ℕ) → opening (f x) ≡ opens (number k) (x ∷ []) (f x)) → {kind : Kind} {a : ℕ} {ans : Answer} →
-      kind ≡ k → OfKind (number kind) r → a ≡ field 8 4 r → Meets (op (f a)) w p ans w' p' → b ≡ same (bytes (note_with (number kind) (a ∷ []) [] ans)) r → Replayed (asked r) false w p r b w' p'
-  unfolding encode
-  arrive_one k f e g {a = a} {ans = ans} q h v m i =
+  -- one with one number
+  pub arrive_one : (k : ℕ) {kind a : ℕ} (f : ℕ → Op) → read_as (row_of k) r ≡ asks (f (field 8 4 r)) → OfKind kind r → kind ≡ k → a ≡ field 8 4 r → Judged (f a) w p r b w' p' →
+      Replayed (asked r) false w p r b w' p'
+  arrive_one k f e h i g j = arrive_bare k e h i (subst (λ (x : ℕ). Judged (f x) w p r b w' p') g j)
+
+  -- the call was made and its record compared: of a kind with no numbers
+  pub call_bare : (k : Kind) (o : Op) → read_as (row_of (number k)) r ≡ asks o → opening o ≡ opens (number k) [] o → {kind : Kind} {ans : Answer} → kind ≡ k → OfKind (number kind) r →
+      Meets (op o) w p ans w' p' → b ≡ same (bytes (note_with (number kind) [] [] ans)) r → Replayed (asked r) false w p r b w' p'
+  call_bare k o e f {ans = ans} q h m i =
       let n = ap number q in
-      arrive (asked_as r (number k) h.right (h.is ∙ n) ∙ e ∙ ap (λ (x : ℕ). asks (f x)) (sym v))
-      (record { ans = ans; called = m; is = i ∙ ap (λ (x : ℕ). same (bytes (note_with x (a ∷ []) [] ans)) r) n ∙ ap (λ (x : Opening). same (bytes (note_with x.kind x.numbers x.text ans)) r) (sym (g a)) })
+      arrive_bare (number k) e h n (judged_as w p r w' p' b o ans (n ∙ ap (λ x. x.kind) (sym f)) (ap (λ x. x.numbers) (sym f)) (ap (λ x. x.text) (sym f)) m i)
+
+  -- of a kind with one number
+  pub call_one : (k : Kind) (f : ℕ → Op) → read_as (row_of (number k)) r ≡ asks (f (field 8 4 r)) → ((x : ℕ) → opening (f x) ≡ opens (number k) (x ∷ []) (f x)) → {kind : Kind} {a : ℕ} {ans : Answer} →
+      kind ≡ k → OfKind (number kind) r → a ≡ field 8 4 r → Meets (op (f a)) w p ans w' p' → b ≡ same (bytes (note_with (number kind) (a ∷ []) [] ans)) r → Replayed (asked r) false w p r b w' p'
+  call_one k f e g {a = a} {ans = ans} q h v m i =
+      let n = ap number q in
+      arrive_one (number k) f e h n v (judged_as w p r w' p' b (f a) ans (n ∙ ap (λ x. x.kind) (sym (g a))) (ap (λ x. x.numbers) (sym (g a))) (ap (λ x. x.text) (sym (g a))) m i)
 
   -- a start
   pub arrive_start : (first : Bool) → OfKind 16 r → Begun (field 8 4 r) (field 8 12 r) (sizes_of (asks_for r)) first w p r b w' p' → Replayed (asked r) first w p r b w' p'
   arrive_start first h j = subst (λ (a : Asked). Replayed a first w p r b w' p') (sym (asked-start r h)) j
 
   -- a filter, the wait as a signed number
-  pub arrive_receive : (a c g d : ℕ) (z : ℤ) (v : Received) → OfKind 21 r → a ≡ field 8 4 r → c ≡ field 8 12 r → g ≡ field 8 20 r → d ≡ field 8 28 r → z ≡ to_z w64 d → d < 2 ^ 64 →
+  pub arrive_receive : (a c g d : ℕ) → OfKind 21 r → a ≡ field 8 4 r → c ≡ field 8 12 r → g ≡ field 8 20 r → d ≡ field 8 28 r → Judged (receive a c g (signed d)) w p r b w' p' →
+      Replayed (asked r) false w p r b w' p'
+  arrive_receive a c g d h e₁ e₂ e₃ e₄ j = arrive (asked-receive r h) (rw (← e₁, ← e₂, ← e₃, ← e₄) j)
+
+  pub call_receive : (a c g d : ℕ) (z : ℤ) (v : Received) → OfKind 21 r → a ≡ field 8 4 r → c ≡ field 8 12 r → g ≡ field 8 20 r → d ≡ field 8 28 r → z ≡ to_z w64 d → d < 2 ^ 64 →
       Meets (op (receive a c g z)) w p (say_received v) w' p' → b ≡ same (bytes (note_with 21 (a ∷ c ∷ g ∷ d ∷ []) [] (say_received v))) r → Replayed (asked r) false w p r b w' p'
-  unfolding encode
-  arrive_receive a c g d z v h e₁ e₂ e₃ e₄ e l q m =
-      let s : z ≡ signed d = e ∙ signed_is d in
-      arrive {o = receive a c g (signed d)} (asked-receive r h ∙ rw (← e₁, ← e₂, ← e₃, ← e₄) refl)
-      (record {
-        ans = say_received v;
-        called = subst (λ (x : ℤ). Meets (op (receive a c g x)) w p (say_received v) w' p') s q;
-        is = m ∙ ap (λ (x : ℕ). same (bytes (note_with 21 (a ∷ c ∷ g ∷ x ∷ []) [] (say_received v))) r) (sym (unsigned_signed d l));
-      })
+  call_receive a c g d z v h e₁ e₂ e₃ e₄ e l q m = arrive_receive a c g d h e₁ e₂ e₃ e₄ (judged-receive w p r w' p' b a c g d z v (e ∙ signed_is d) l q m)
 
   pub arrive_bus : (a c g d : ℕ) → OfKind 34 r → a ≡ field 8 4 r → c ≡ field 8 12 r → g ≡ field 8 20 r → d ≡ field 8 28 r → Judged (bus a c g d) w p r b w' p' → Replayed (asked r) false w p r b w' p'
   arrive_bus a c g d h e₁ e₂ e₃ e₄ j = arrive (asked-bus r h) (rw (← e₁, ← e₂, ← e₃, ← e₄) j)
 
-  pub arrive_read : (a c : ℕ) → OfKind 38 r → a ≡ field 8 4 r → c ≡ field 8 12 r → Judged (read a c) w p r b w' p' → Replayed (asked r) false w p r b w' p'
-  arrive_read a c h e f j = arrive (asked-read r h) (rw (← e, ← f) j)
+  pub arrive_read : {k : ℕ} (a c : ℕ) → OfKind k r → k ≡ 38 → a ≡ field 8 4 r → c ≡ field 8 12 r → Judged (read a c) w p r b w' p' → Replayed (asked r) false w p r b w' p'
+  arrive_read a c h i e f j = arrive (asked-read r (kind_is h i)) (rw (← e, ← f) j)
 
 module _ (w p r w' p' : List ℕ) (b : Bool) where
   -- one with a payload of n bytes: m was passed, which is what was recorded, or is too long as that is; two that are too long are called alike

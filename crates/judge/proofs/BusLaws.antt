@@ -4,7 +4,7 @@ use mathlib.Core.Path.{◌≡◌, refl, sym, ap, subst, ◌∙◌, fun_ext}
 use mathlib.Core.Bool.{Bool}
 use mathlib.Core.List.{List, [], ◌∷◌, ◌++◌}
 use native.Mathlib.Omega.{arith}
-use lib.ListN.{drop, length, take}
+use lib.ListN.{drop, length, length-replicate, replicate, take}
 use lib.Seq.{length-take-le, take-append-le}
 use Rattle.ledger.specs.Call.{Answer}
 use Rattle.ledger.specs.Call.Answer.{plain}
@@ -24,10 +24,11 @@ use Rattle.rules.specs.Story.{Meets}
 use Rattle.rules.proofs.Kept.Ready.{good_ready}
 use Rattle.rules.proofs.Stories.Host.{called_ready}
 use Rattle.trace.specs.Codec.{bytes}
-use Rattle.trace.specs.Kinds.{encode, noted}
+use Rattle.trace.specs.Kinds.{encode, kept, noted}
 use Rattle.trace.specs.Verdict.{same}
-use Rattle.trace.proofs.KindLaws.{kept_whole, publish_long, read_most}
+use Rattle.trace.proofs.KindLaws.{kept_none, kept_whole, publish_long, read_most}
 use Rattle.judge.specs.Replayed.{Judged}
+use Rattle.judge.proofs.ArmLaws.{Not, up}
 
 -- ---- what stands for what was recorded
 -- the promise is the same of two payloads that are too long
@@ -63,6 +64,20 @@ read-lent b room n v w p whole front w' p' e l m x =
 
 -- ---- the call was made, and its record compared
 module _ (w p r w' p' : List ℕ) (b : Bool) where
+  -- with another payload that is too long
+  pub judged_lengthy : (a n : ℕ) (t : List ℕ) (v : ℕ) → PAYLOAD-MOST < n → Meets (op (publish a t)) w p (plain v) w' p' → PAYLOAD-MOST < length t →
+      b ≡ same (bytes (noted 35 (a ∷ n ∷ []) [] (v ∷ []))) r → Judged (publish a (replicate n 0)) w p r b w' p'
+  unfolding encode
+  judged_lengthy a n t v h q l m =
+      let z = replicate {A = ℕ} n 0 in
+      let k : length z ≡ n = length-replicate {A = ℕ} n 0 in
+      let y : kept z ≡ [] = kept_none z (rw k h) in
+      record {
+        ans = plain v;
+        called = lengthy_meets a t z l (rw k h) w p (plain v) w' p' q;
+        is = m ∙ ap (λ (x : ℕ). same (bytes (noted 35 (a ∷ x ∷ []) [] (v ∷ []))) r) (sym k) ∙ ap (λ (x : List ℕ). same (bytes (noted 35 (a ∷ length z ∷ []) x (v ∷ []))) r) (sym y);
+      }
+
   pub judged-read : (a room : ℕ) (v : Copied) (c : List ℕ) → v.length ≤ PAYLOAD-MOST → length c ≡ PAYLOAD-MOST → Meets (op (read a room)) w p (say_copy (copy_in v c)) w' p' →
       b ≡ same (bytes (noted 38 (a ∷ room ∷ v.no ∷ v.length ∷ []) (take v.length c) [])) r → Judged (read a room) w p r b w' p'
   unfolding encode
@@ -75,3 +90,9 @@ module _ (w p r w' p' : List ℕ) (b : Bool) where
         is = m ∙ ap (λ (x : ℕ). same (bytes (noted 38 (a ∷ room ∷ v.no ∷ x ∷ []) t [])) r) (sym k)
             ∙ ap (λ (x : List ℕ). same (bytes (noted 38 (a ∷ room ∷ v.no ∷ length t ∷ []) x [])) r) (sym (kept_whole t (omega (arith, k))));
       }
+
+-- ---- which kind is left
+pub is_read : (k : ℕ) → 34 ≤ k → k < 39 → (((Unit {0} × Not k 34) × Not k 35) × Not k 36) × Not k 37 → k ≡ 38
+is_read k a b r =
+    let g : 38 ≤ k = let ((((_, n34), n35), n36), n37) = r in up (up (up (up a n34) n35) n36) n37 in
+    omega arith

@@ -1,5 +1,5 @@
 -- A piece of a trace, record by record.
-use Prim.Native.Nat.{ℕ, suc, ◌+◌, ◌-◌, ◌<◌, ◌≤◌}
+use Prim.Native.Nat.{ℕ, suc, ◌+◌, ◌-◌, ◌*◌, ◌<◌, ◌≤◌}
 use mathlib.Core.Path.{◌≡◌, refl, sym, ap, ◌∙◌}
 use mathlib.Core.Bool.{Bool, true, false, ◌||◌}
 use mathlib.Core.List.{List, ◌++◌, append_assoc}
@@ -9,7 +9,9 @@ use lib.ListN.{drop, length, length-drop, take, take-append-drop}
 use lib.Seq.{drop-drop, length-take-le, take-take}
 use lib.Dec.{eqb, ltb}
 use borrow.Author.Tests.{lt-ltb, ne_eqb}
+use Rattle.pools.proofs.BoolLaws.{true_false}
 use Rattle.records.specs.Bytes.{field, of_le}
+use Rattle.tables.specs.Limits.{ENTRY-BYTES, MOST-DATAS, WORDS-MOST}
 use Rattle.trace.specs.Kinds.{asked}
 use Rattle.trace.specs.Verdict.{Taken, extent_of, goes_on, judged, verdict_from}
 use Rattle.trace.specs.Verdict.Verdict.{bad}
@@ -17,6 +19,10 @@ use Rattle.trace.proofs.StepLaws.{from-whole}
 use Rattle.judge.specs.Feeding.{Bench, Comes, Going, standing, unfinished}
 use Rattle.judge.specs.Replayed.{Replayed, is_first}
 use Rattle.judge.proofs.ReplayLaws.{replayed_comes}
+
+-- before the first record any two buffers will do that are long enough
+pub bench_before : (w p : List ℕ) → WORDS-MOST ≤ length w → ENTRY-BYTES * MOST-DATAS ≤ length p → Bench true w p
+bench_before w p a b = record { words = a; bytes = b; sound = λ q. absurd (true_false true refl q) }
 
 -- so far every record was right: whatever follows the piece, the verdict is that on what is left of it
 pub record Reached (n : ℕ) (w₀ p₀ bs w p : List ℕ) (count used : ℕ) : Type 0 where

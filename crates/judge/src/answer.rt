@@ -10,7 +10,6 @@ ghost use Rattle.trace.specs.Verdict.{same};
 
 use rules::{Advanced, Ended, Made, Received, Report, Shown, Turn};
 use trace::kind::Kind;
-use trace::writer::matches;
 
 // An answer of numbers, which stand behind all that was passed.
 pub trait Recorded {
@@ -26,7 +25,7 @@ impl Recorded for u64 {
     ghost answer = { plain };
 
     fn is_in(self, r: &[u8], kind: Kind, front: &[u64], text: &[u8]) -> bool {
-        matches(r, kind, front, text, &[self])
+        kind.matches(r, front, text, &[self])
     }
 }
 
@@ -34,7 +33,7 @@ impl Recorded for Made {
     ghost answer = { say_made };
 
     fn is_in(self, r: &[u8], kind: Kind, front: &[u64], text: &[u8]) -> bool {
-        matches(r, kind, front, text, &[self.no, self.id])
+        kind.matches(r, front, text, &[self.no, self.id])
     }
 }
 
@@ -43,13 +42,7 @@ impl Recorded for Turn {
 
     fn is_in(self, r: &[u8], kind: Kind, front: &[u64], text: &[u8]) -> bool {
         let sleep = self.sleep.cast_unsigned();
-        matches(
-            r,
-            kind,
-            front,
-            text,
-            &[self.no, self.id, self.reason, sleep],
-        )
+        kind.matches(r, front, text, &[self.no, self.id, self.reason, sleep])
     }
 }
 
@@ -58,7 +51,7 @@ impl Recorded for Received {
 
     fn is_in(self, r: &[u8], kind: Kind, front: &[u64], text: &[u8]) -> bool {
         let back = [self.no, self.sender, self.class, self.tag, self.length];
-        matches(r, kind, front, text, &back)
+        kind.matches(r, front, text, &back)
     }
 }
 
@@ -66,7 +59,7 @@ impl Recorded for Shown {
     ghost answer = { say_shown };
 
     fn is_in(self, r: &[u8], kind: Kind, front: &[u64], text: &[u8]) -> bool {
-        matches(r, kind, front, text, &[self.no, self.offset, self.length])
+        kind.matches(r, front, text, &[self.no, self.offset, self.length])
     }
 }
 
@@ -74,7 +67,7 @@ impl Recorded for Ended {
     ghost answer = { say_ended };
 
     fn is_in(self, r: &[u8], kind: Kind, front: &[u64], text: &[u8]) -> bool {
-        matches(r, kind, front, text, &[self.no, self.sent, self.lost])
+        kind.matches(r, front, text, &[self.no, self.sent, self.lost])
     }
 }
 
@@ -82,7 +75,7 @@ impl Recorded for Advanced {
     ghost answer = { say_advanced };
 
     fn is_in(self, r: &[u8], kind: Kind, front: &[u64], text: &[u8]) -> bool {
-        matches(r, kind, front, text, &[self.no, self.fired])
+        kind.matches(r, front, text, &[self.no, self.fired])
     }
 }
 
@@ -92,6 +85,6 @@ impl Recorded for Report {
     fn is_in(self, r: &[u8], kind: Kind, front: &[u64], text: &[u8]) -> bool {
         let [actors, mails, datas, links, monitors, timers] = self.free;
         let back = [self.no, actors, mails, datas, links, monitors, timers];
-        matches(r, kind, front, text, &back)
+        kind.matches(r, front, text, &back)
     }
 }

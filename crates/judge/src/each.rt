@@ -1,21 +1,16 @@
 // Each call with several numbers, or with a payload, made as a record asks, and the record compared with the one that the writer writes of it.
 ghost use Rattle.std.specs.Prelude.{false, ◌≡◌, ◌+◌, ◌<◌, ◌≤◌, drop, length, take};
-ghost use Rattle.ledger.specs.Call.Call.{op};
-ghost use Rattle.ledger.specs.Call.Op.{read};
-ghost use Rattle.rules.specs.Host.{copy_in};
-ghost use Rattle.rules.specs.Run.{say_copy};
-ghost use Rattle.rules.specs.Story.{Meets};
+ghost use Rattle.ledger.specs.Call.Op.{show};
 ghost use Rattle.trace.specs.Kinds.{asked};
-ghost use Rattle.judge.specs.Replayed.{OfKind, Replayed};
+ghost use Rattle.judge.specs.Replayed.{Judged, OfKind, Replayed};
 
 use crate::answer::Recorded;
 use records::bytes::load64;
-use rules::Copied;
-use runtime::host::{fg_bus, fg_notify, fg_publish, fg_read, fg_receive};
+use runtime::host::{fg_bus, fg_notify, fg_publish, fg_receive};
 use runtime::show::show;
 use tables::limits::PAYLOAD_MOST;
 use trace::kind::Kind;
-use trace::writer::{kept, matches};
+use trace::writer::kept;
 
 // ---- calls with a payload
 // A payload of n bytes that stands in a record from a place on; where it was recorded by its length alone, any other that is too long stands for it.
@@ -80,34 +75,11 @@ pub(crate) fn bus(t: &mut [u64], p: &mut [u8], r: &[u8]) -> bool
     v.is_in(r, Kind::Bus, &[entries, subscribers, reads, age], b"")
 }
 
-// ---- calls that answer bytes
+// ---- a call that answers bytes
 // The part that is shown: whole, or its length alone.
-pub(crate) fn show_part(t: &[u64], p: &[u8], r: &[u8]) -> bool
-    requires { OfKind 22 r.now }
-    ensures { Replayed (asked r.now) false t.now p.now r.now result t.now p.now }
+pub fn judge_show(t: &[u64], p: &[u8], r: &[u8]) -> bool
+    ensures { Judged show t.now p.now r.now result t.now p.now }
 {
     let m = show(t, p);
-    matches(r, Kind::Show, &[m.len() as u64], kept(m), &[])
-}
-
-// A read of a bus to a slice of so many bytes: what is copied stands first in the copy. No payload is over 252 bytes, so as many are lent for any more.
-fn read_here(t: &mut [u64], p: &mut [u8], bus: u64, room: u64, copy: &mut [u8]) -> Copied
-    requires { length copy.old ≡ 252 }
-    ensures meets { Meets (op (read bus room)) t.old p.old (say_copy (copy_in result copy.new)) t.new p.new }
-    ensures short { result.length ≤ 252 }
-{
-    let n = room.min(PAYLOAD_MOST as u64) as usize;
-    fg_read(t, p, bus, &mut copy[..n])
-}
-
-pub(crate) fn read(t: &mut [u64], p: &mut [u8], r: &[u8]) -> bool
-    requires { OfKind 38 r.now }
-    ensures { Replayed (asked r.now) false t.old p.old r.now result t.new p.new }
-{
-    let bus = load64(r, 4);
-    let room = load64(r, 12);
-    let mut copy = [0u8; PAYLOAD_MOST];
-    let v = read_here(t, p, bus, room, &mut copy);
-    let text = &copy[..v.length as usize];
-    matches(r, Kind::Read, &[bus, room, v.no, v.length], text, &[])
+    Kind::Show.matches(r, &[m.len() as u64], kept(m), &[])
 }

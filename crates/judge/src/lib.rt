@@ -2,6 +2,7 @@
 #![tactic(auto)]
 
 pub mod answer;
+pub mod buses;
 pub mod each;
 pub mod feed;
 pub mod forms;

@@ -5,8 +5,9 @@ ghost use Rattle.trace.specs.Kinds.{asked};
 ghost use Rattle.judge.specs.Replayed.{OfKind, Replayed, is_first};
 
 use crate::answer::Recorded;
+use crate::buses::judge_read;
 use crate::each;
-use crate::forms::length_right;
+use crate::forms::Form;
 use crate::start::judge_start;
 use records::bytes::{load16, load64};
 use runtime::host::{
@@ -28,7 +29,7 @@ fn later(t: &mut [u64], p: &mut [u8], r: &[u8], kind: Kind) -> bool
         Kind::Yield => fg_yield(t, p).is_in(r, kind, &[], b""),
         Kind::Notify => each::notify(t, p, r),
         Kind::Receive => each::receive(t, p, r),
-        Kind::Show => each::show_part(t, p, r),
+        Kind::Show => each::judge_show(t, p, r),
         Kind::Shown => fg_shown(t, p).is_in(r, kind, &[], b""),
         Kind::After => fg_after(t, p, a).is_in(r, kind, &[a], b""),
         Kind::Every => fg_every(t, p, a).is_in(r, kind, &[a], b""),
@@ -44,7 +45,7 @@ fn later(t: &mut [u64], p: &mut [u8], r: &[u8], kind: Kind) -> bool
         Kind::Publish => each::publish(t, p, r),
         Kind::Subscribe => fg_subscribe(t, p, a).is_in(r, kind, &[a], b""),
         Kind::Unsubscribe => fg_unsubscribe(t, p, a).is_in(r, kind, &[a], b""),
-        Kind::Read => each::read(t, p, r),
+        Kind::Read => judge_read(t, p, r, a, load64(r, 12)),
     }
 }
 
@@ -70,7 +71,7 @@ pub fn fg_replay(t: &mut [u64], p: &mut [u8], n: u64, r: &[u8]) -> bool
         return false;
     }
     match Kind::try_from(load16(r, 2)) {
-        Ok(kind) => length_right(r, kind) && whole(t, p, n, r, kind),
+        Ok(kind) => Form::of(kind).fits(r) && whole(t, p, n, r, kind),
         Err(_) => false,
     }
 }

@@ -4,7 +4,7 @@ use mathlib.Core.Path.{◌≡◌, sym, ap, ◌∙◌}
 use mathlib.Core.Bool.{true, false}
 use mathlib.Core.List.{List, map}
 use native.Mathlib.Omega.{arith}
-use lib.ListN.{get_or-eq_default, drop, get_or, length}
+use lib.ListN.{get_or-eq_default, get_or-map, drop, get_or, length}
 use lib.Seq.{drop-drop}
 use lib.Dec.{eqb, leb}
 use borrow.Author.Tests.{eqb-true, le-leb, leb-false, leb-true, lt-leb}
@@ -36,6 +36,11 @@ row_below k h = rw (lt-leb FIRST k h)
 
 pub row-past : (k : ℕ) → FIRST + length rows ≤ k → row_of k ≡ no_row
 row-past k h = row_at k (omega arith) ∙ get_or-eq_default rows no_row {n = k - FIRST} (omega arith)
+
+-- a column of the table: what each kind's row gives, in order
+module _ (f : Row → ℕ) (none : f no_row ≡ 0) where
+  pub column-at : (k : ℕ) → FIRST ≤ k → get_or (map f rows) (k - FIRST) 0 ≡ f (row_of k)
+  column-at k h = ap (get_or (map f rows) (k - FIRST)) (sym none) ∙ get_or-map f rows (k - FIRST) no_row ∙ ap f (sym (row_at k h))
 
 -- ---- what a record asks for
 module _ (r : List ℕ) where

@@ -10,7 +10,7 @@ ghost use Rattle.trace.specs.Promises.{Put};
 ghost use Rattle.trace.specs.Kinds.{encode};
 
 use crate::kind::Kind;
-use crate::writer::{kept, write, write_numbers};
+use crate::writer::kept;
 
 // The lengths of both buffers and the six capacities.
 pub fn fg_trace_start(
@@ -37,30 +37,25 @@ pub fn fg_trace_start(
         monitors,
         timers,
     ];
-    write_numbers(out, Kind::Start, &front, &[no])
+    Kind::Start.write_numbers(out, &front, &[no])
 }
 
 pub fn fg_trace_spawn(out: &mut [u8], priority: u64, no: u64, id: u64) -> usize
     ensures { Put (encode 0 0 (op (spawn priority)) (made no id)) out.old result out.new }
 {
-    write_numbers(out, Kind::Spawn, &[priority], &[no, id])
+    Kind::Spawn.write_numbers(out, &[priority], &[no, id])
 }
 
 pub fn fg_trace_next(out: &mut [u8], no: u64, id: u64, reason: u64, sleep: i64) -> usize
     ensures { Put (encode 0 0 (op next) (turn no id reason sleep)) out.old result out.new }
 {
-    write_numbers(
-        out,
-        Kind::Next,
-        &[],
-        &[no, id, reason, sleep.cast_unsigned()],
-    )
+    Kind::Next.write_numbers(out, &[], &[no, id, reason, sleep.cast_unsigned()])
 }
 
 pub fn fg_trace_yield(out: &mut [u8], no: u64) -> usize
     ensures { Put (encode 0 0 (op yield) (plain no)) out.old result out.new }
 {
-    write_numbers(out, Kind::Yield, &[], &[no])
+    Kind::Yield.write_numbers(out, &[], &[no])
 }
 
 // A payload over 252 bytes by its length alone.
@@ -68,7 +63,7 @@ pub fn fg_trace_notify(out: &mut [u8], target: u64, tag: u64, payload: &[u8], no
     ensures { Put (encode 0 0 (op (notify target tag payload.now)) (plain no)) out.old result out.new }
 {
     let front = [target, tag, payload.len() as u64];
-    write(out, Kind::Notify, &front, kept(payload), &[no])
+    Kind::Notify.write(out, &front, kept(payload), &[no])
 }
 
 // The filter and the wait; the number, and of the message in hand its sender, class, tag and length.
@@ -87,12 +82,7 @@ pub fn fg_trace_receive(
     ensures { Put (encode 0 0 (op (receive sender class tag wait)) (received no from of_class of_tag length)) out.old result out.new }
 {
     let front = [sender, class, tag, wait.cast_unsigned()];
-    write_numbers(
-        out,
-        Kind::Receive,
-        &front,
-        &[no, from, of_class, of_tag, length],
-    )
+    Kind::Receive.write_numbers(out, &front, &[no, from, of_class, of_tag, length])
 }
 
 // The part that was shown, as a payload is.
@@ -100,67 +90,67 @@ pub fn fg_trace_show(out: &mut [u8], part: &[u8]) -> usize
     ensures { Put (encode 0 0 (op show) (Answer.part part.now)) out.old result out.new }
 {
     let front = [part.len() as u64];
-    write(out, Kind::Show, &front, kept(part), &[])
+    Kind::Show.write(out, &front, kept(part), &[])
 }
 
 pub fn fg_trace_shown(out: &mut [u8], no: u64, offset: u64, length: u64) -> usize
     ensures { Put (encode 0 0 (op shown) (place no offset length)) out.old result out.new }
 {
-    write_numbers(out, Kind::Shown, &[], &[no, offset, length])
+    Kind::Shown.write_numbers(out, &[], &[no, offset, length])
 }
 
 pub fn fg_trace_after(out: &mut [u8], delay: u64, no: u64, id: u64) -> usize
     ensures { Put (encode 0 0 (op (after delay)) (made no id)) out.old result out.new }
 {
-    write_numbers(out, Kind::After, &[delay], &[no, id])
+    Kind::After.write_numbers(out, &[delay], &[no, id])
 }
 
 pub fn fg_trace_every(out: &mut [u8], interval: u64, no: u64, id: u64) -> usize
     ensures { Put (encode 0 0 (op (every interval)) (made no id)) out.old result out.new }
 {
-    write_numbers(out, Kind::Every, &[interval], &[no, id])
+    Kind::Every.write_numbers(out, &[interval], &[no, id])
 }
 
 pub fn fg_trace_cancel(out: &mut [u8], id: u64, no: u64) -> usize
     ensures { Put (encode 0 0 (op (cancel id)) (plain no)) out.old result out.new }
 {
-    write_numbers(out, Kind::Cancel, &[id], &[no])
+    Kind::Cancel.write_numbers(out, &[id], &[no])
 }
 
 pub fn fg_trace_link(out: &mut [u8], partner: u64, no: u64) -> usize
     ensures { Put (encode 0 0 (op (link partner)) (plain no)) out.old result out.new }
 {
-    write_numbers(out, Kind::Link, &[partner], &[no])
+    Kind::Link.write_numbers(out, &[partner], &[no])
 }
 
 pub fn fg_trace_unlink(out: &mut [u8], partner: u64, no: u64) -> usize
     ensures { Put (encode 0 0 (op (unlink partner)) (plain no)) out.old result out.new }
 {
-    write_numbers(out, Kind::Unlink, &[partner], &[no])
+    Kind::Unlink.write_numbers(out, &[partner], &[no])
 }
 
 pub fn fg_trace_monitor(out: &mut [u8], target: u64, no: u64, id: u64) -> usize
     ensures { Put (encode 0 0 (op (monitor target)) (made no id)) out.old result out.new }
 {
-    write_numbers(out, Kind::Monitor, &[target], &[no, id])
+    Kind::Monitor.write_numbers(out, &[target], &[no, id])
 }
 
 pub fn fg_trace_demonitor(out: &mut [u8], id: u64, no: u64) -> usize
     ensures { Put (encode 0 0 (op (demonitor id)) (plain no)) out.old result out.new }
 {
-    write_numbers(out, Kind::Demonitor, &[id], &[no])
+    Kind::Demonitor.write_numbers(out, &[id], &[no])
 }
 
 pub fn fg_trace_exit(out: &mut [u8], reason: u64, no: u64, sent: u64, lost: u64) -> usize
     ensures { Put (encode 0 0 (op (exit reason)) (ended no sent lost)) out.old result out.new }
 {
-    write_numbers(out, Kind::Exit, &[reason], &[no, sent, lost])
+    Kind::Exit.write_numbers(out, &[reason], &[no, sent, lost])
 }
 
 pub fn fg_trace_advance(out: &mut [u8], micros: u64, no: u64, fired: u64) -> usize
     ensures { Put (encode 0 0 (op (advance micros)) (advanced no fired)) out.old result out.new }
 {
-    write_numbers(out, Kind::Advance, &[micros], &[no, fired])
+    Kind::Advance.write_numbers(out, &[micros], &[no, fired])
 }
 
 // The six free counts.
@@ -176,9 +166,8 @@ pub fn fg_trace_report(
 ) -> usize
     ensures { Put (encode 0 0 (op report) (counts no (actors ∷ mailboxes ∷ data_entries ∷ links ∷ monitors ∷ timers ∷ []))) out.old result out.new }
 {
-    write_numbers(
+    Kind::Report.write_numbers(
         out,
-        Kind::Report,
         &[],
         &[no, actors, mailboxes, data_entries, links, monitors, timers],
     )
@@ -197,7 +186,7 @@ pub fn fg_trace_bus(
     ensures { Put (encode 0 0 (op (bus entries subscribers reads age)) (made no id)) out.old result out.new }
 {
     let front = [entries, subscribers, reads, age];
-    write_numbers(out, Kind::Bus, &front, &[no, id])
+    Kind::Bus.write_numbers(out, &front, &[no, id])
 }
 
 // A payload over 252 bytes by its length alone.
@@ -205,19 +194,19 @@ pub fn fg_trace_publish(out: &mut [u8], bus: u64, payload: &[u8], no: u64) -> us
     ensures { Put (encode 0 0 (op (publish bus payload.now)) (plain no)) out.old result out.new }
 {
     let front = [bus, payload.len() as u64];
-    write(out, Kind::Publish, &front, kept(payload), &[no])
+    Kind::Publish.write(out, &front, kept(payload), &[no])
 }
 
 pub fn fg_trace_subscribe(out: &mut [u8], bus: u64, no: u64) -> usize
     ensures { Put (encode 0 0 (op (subscribe bus)) (plain no)) out.old result out.new }
 {
-    write_numbers(out, Kind::Subscribe, &[bus], &[no])
+    Kind::Subscribe.write_numbers(out, &[bus], &[no])
 }
 
 pub fn fg_trace_unsubscribe(out: &mut [u8], bus: u64, no: u64) -> usize
     ensures { Put (encode 0 0 (op (unsubscribe bus)) (plain no)) out.old result out.new }
 {
-    write_numbers(out, Kind::Unsubscribe, &[bus], &[no])
+    Kind::Unsubscribe.write_numbers(out, &[bus], &[no])
 }
 
 // The bus and how many bytes the lent slice has; the number, and the bytes that were copied to it, as a payload is.
@@ -225,5 +214,5 @@ pub fn fg_trace_read(out: &mut [u8], bus: u64, room: u64, no: u64, copy: &[u8]) 
     ensures { Put (encode 0 0 (op (read bus room)) (copied no copy.now)) out.old result out.new }
 {
     let front = [bus, room, no, copy.len() as u64];
-    write(out, Kind::Read, &front, kept(copy), &[])
+    Kind::Read.write(out, &front, kept(copy), &[])
 }

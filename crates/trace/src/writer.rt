@@ -24,23 +24,23 @@ pub fn kept(payload: &[u8]) -> &[u8]
 }
 
 // The record of these numbers and this text, at the front of a slice that has room.
-fn put_note(out: &mut [u8], kind: Kind, front: &[u64], text: &[u8], back: &[u64])
+fn put_note(out: &mut [u8], kind: u16, front: &[u64], text: &[u8], back: &[u64])
     requires { Short front.now text.now back.now × (4 + 8 * length front.now + length text.now + 8 * length back.now ≤ length out.old) }
-    ensures { out.new ≡ sets out.old 0 (bytes (noted (number kind) front.now text.now back.now)) }
+    ensures { out.new ≡ sets out.old 0 (bytes (noted kind front.now text.now back.now)) }
 {
     let f = 4 + 8 * front.len();
     let e = f + text.len();
     let size = e + 8 * back.len() - 2;
-    put_frame(out, 0, size as u16, u16::from(kind));
+    put_frame(out, 0, size as u16, kind);
     put_words(out, 4, front);
     out[f..e].copy_from_slice(text);
     put_words(out, e, back);
 }
 
 // The same: how many bytes it takes; 0 and nothing changed where the slice is too short.
-pub fn write(out: &mut [u8], kind: Kind, front: &[u64], text: &[u8], back: &[u64]) -> usize
+pub fn write(out: &mut [u8], kind: u16, front: &[u64], text: &[u8], back: &[u64]) -> usize
     requires { Short front.now text.now back.now }
-    ensures { Put (bytes (noted (number kind) front.now text.now back.now)) out.old result out.new }
+    ensures { Put (bytes (noted kind front.now text.now back.now)) out.old result out.new }
 {
     let n = 4 + 8 * front.len() + text.len() + 8 * back.len();
     if out.len() < n {
@@ -51,23 +51,47 @@ pub fn write(out: &mut [u8], kind: Kind, front: &[u64], text: &[u8], back: &[u64
 }
 
 // The same of a record that has no text.
-pub fn write_numbers(out: &mut [u8], kind: Kind, front: &[u64], back: &[u64]) -> usize
+pub fn write_numbers(out: &mut [u8], kind: u16, front: &[u64], back: &[u64]) -> usize
     requires { Short front.now [] back.now }
-    ensures { Put (bytes (noted (number kind) front.now [] back.now)) out.old result out.new }
+    ensures { Put (bytes (noted kind front.now [] back.now)) out.old result out.new }
 {
     write(out, kind, front, b"", back)
 }
 
 // Is this record the one that the writer writes?
-pub fn matches(r: &[u8], kind: Kind, front: &[u64], text: &[u8], back: &[u64]) -> bool
+pub fn matches(r: &[u8], kind: u16, front: &[u64], text: &[u8], back: &[u64]) -> bool
     requires { Short front.now text.now back.now }
-    ensures { result ≡ same (bytes (noted (number kind) front.now text.now back.now)) r.now }
+    ensures { result ≡ same (bytes (noted kind front.now text.now back.now)) r.now }
 {
     let f = 4 + 8 * front.len();
     let e = f + text.len();
     let size = e + 8 * back.len() - 2;
-    is_record(r, size as u16, u16::from(kind))
+    is_record(r, size as u16, kind)
         && words_at(r, 4, front)
         && r[f..].starts_with(text)
         && words_at(r, e, back)
+}
+
+// The same by the kind itself, which stands for its number.
+impl Kind {
+    pub fn write(self, out: &mut [u8], front: &[u64], text: &[u8], back: &[u64]) -> usize
+        requires { Short front.now text.now back.now }
+        ensures { Put (bytes (noted (number self) front.now text.now back.now)) out.old result out.new }
+    {
+        write(out, u16::from(self), front, text, back)
+    }
+
+    pub fn write_numbers(self, out: &mut [u8], front: &[u64], back: &[u64]) -> usize
+        requires { Short front.now [] back.now }
+        ensures { Put (bytes (noted (number self) front.now [] back.now)) out.old result out.new }
+    {
+        write_numbers(out, u16::from(self), front, back)
+    }
+
+    pub fn matches(self, r: &[u8], front: &[u64], text: &[u8], back: &[u64]) -> bool
+        requires { Short front.now text.now back.now }
+        ensures { result ≡ same (bytes (noted (number self) front.now text.now back.now)) r.now }
+    {
+        matches(r, u16::from(self), front, text, back)
+    }
 }

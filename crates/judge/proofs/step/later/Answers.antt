@@ -4,7 +4,7 @@ use Rattle.ledger.specs.Call.Op.{advance, after, cancel, demonitor, every, exit,
 use Rattle.trace.specs.declared.kind.Kind.TheVariants.{Advance, After, Cancel, Demonitor, Every, Exit, Link, Monitor, Next, Report, Shown, Spawn, Subscribe, Unlink, Unsubscribe, Yield}
 use Rattle.trace.specs.Kind.{number}
 use Rattle.trace.specs.Kinds.{row_of}
-use Rattle.judge.proofs.ArmLaws.{arrive_bare, arrive_one, arrive_start, first_there, kind_is, kind_long}
+use Rattle.judge.proofs.ArmLaws.{arrive_bare, arrive_read, arrive_start, call_bare, call_one, first_there, kind_is, kind_long}
 use Rattle.judge.proofs.step.later.Goals as goal
 
 pub load64-a-requires : goal.load64-a-requires
@@ -20,17 +20,15 @@ notify-requires c = kind_is c.requires (ap number c.in-Notify.is)
 pub receive-requires : goal.receive-requires
 receive-requires c = kind_is c.requires (ap number c.in-Receive.is)
 
-pub show_part-requires : goal.show_part-requires
-show_part-requires c = kind_is c.requires (ap number c.in-Show.is)
-
 pub bus-requires : goal.bus-requires
 bus-requires c = kind_is c.requires (ap number c.in-Bus.is)
 
 pub publish-requires : goal.publish-requires
 publish-requires c = kind_is c.requires (ap number c.in-Publish.is)
 
-pub read-requires : goal.read-requires
-read-requires c = kind_is c.requires (ap number c.in-Read.is)
+pub load64-requires : goal.load64-requires
+unfolding row_of
+load64-requires c = let l = kind_long 38 _ (kind_is c.requires (ap number c.in-Read.is)) in omega arith
 
 pub returns-in-Start : goal.returns-in-Start
 returns-in-Start c = arrive_start _ (kind_is c.requires (ap number c.in-Start.is)) c.judge_start.ensures
@@ -38,79 +36,86 @@ returns-in-Start c = arrive_start _ (kind_is c.requires (ap number c.in-Start.is
 pub returns-in-Spawn : goal.returns-in-Spawn
 unfolding row_of
 returns-in-Spawn c =
-    arrive_one Spawn spawn refl (λ x. refl) c.in-Spawn.is c.requires c.load64-a.ensures c.fg_spawn.ensures c.is_in.ensures
+    call_one Spawn spawn refl (λ x. refl) c.in-Spawn.is c.requires c.load64-a.ensures c.fg_spawn.ensures c.is_in.ensures
 
 pub returns-in-Next : goal.returns-in-Next
 unfolding row_of
 returns-in-Next c =
-    arrive_bare Next next refl refl c.in-Next.is c.requires c.fg_next.ensures c.is_in-in-Next.ensures
+    call_bare Next next refl refl c.in-Next.is c.requires c.fg_next.ensures c.is_in-in-Next.ensures
 
 pub returns-in-Yield : goal.returns-in-Yield
 unfolding row_of
 returns-in-Yield c =
-    arrive_bare Yield yield refl refl c.in-Yield.is c.requires c.fg_yield.ensures c.is_in-in-Yield.ensures
+    call_bare Yield yield refl refl c.in-Yield.is c.requires c.fg_yield.ensures c.is_in-in-Yield.ensures
+
+pub returns-in-Show : goal.returns-in-Show
+unfolding row_of
+returns-in-Show c = arrive_bare 22 refl c.requires (ap number c.in-Show.is) c.judge_show.ensures
 
 pub returns-in-Shown : goal.returns-in-Shown
 unfolding row_of
 returns-in-Shown c =
-    arrive_bare Shown shown refl refl c.in-Shown.is c.requires c.fg_shown.ensures c.is_in-in-Shown.ensures
+    call_bare Shown shown refl refl c.in-Shown.is c.requires c.fg_shown.ensures c.is_in-in-Shown.ensures
 
 pub returns-in-After : goal.returns-in-After
 unfolding row_of
 returns-in-After c =
-    arrive_one After after refl (λ x. refl) c.in-After.is c.requires c.load64-a.ensures c.fg_after.ensures c.is_in-in-After.ensures
+    call_one After after refl (λ x. refl) c.in-After.is c.requires c.load64-a.ensures c.fg_after.ensures c.is_in-in-After.ensures
 
 pub returns-in-Every : goal.returns-in-Every
 unfolding row_of
 returns-in-Every c =
-    arrive_one Every every refl (λ x. refl) c.in-Every.is c.requires c.load64-a.ensures c.fg_every.ensures c.is_in-in-Every.ensures
+    call_one Every every refl (λ x. refl) c.in-Every.is c.requires c.load64-a.ensures c.fg_every.ensures c.is_in-in-Every.ensures
 
 pub returns-in-Cancel : goal.returns-in-Cancel
 unfolding row_of
 returns-in-Cancel c =
-    arrive_one Cancel cancel refl (λ x. refl) c.in-Cancel.is c.requires c.load64-a.ensures c.fg_cancel.ensures c.is_in-in-Cancel.ensures
+    call_one Cancel cancel refl (λ x. refl) c.in-Cancel.is c.requires c.load64-a.ensures c.fg_cancel.ensures c.is_in-in-Cancel.ensures
 
 pub returns-in-Link : goal.returns-in-Link
 unfolding row_of
 returns-in-Link c =
-    arrive_one Link link refl (λ x. refl) c.in-Link.is c.requires c.load64-a.ensures c.fg_link.ensures c.is_in-in-Link.ensures
+    call_one Link link refl (λ x. refl) c.in-Link.is c.requires c.load64-a.ensures c.fg_link.ensures c.is_in-in-Link.ensures
 
 pub returns-in-Unlink : goal.returns-in-Unlink
 unfolding row_of
 returns-in-Unlink c =
-    arrive_one Unlink unlink refl (λ x. refl) c.in-Unlink.is c.requires c.load64-a.ensures c.fg_unlink.ensures c.is_in-in-Unlink.ensures
+    call_one Unlink unlink refl (λ x. refl) c.in-Unlink.is c.requires c.load64-a.ensures c.fg_unlink.ensures c.is_in-in-Unlink.ensures
 
 pub returns-in-Monitor : goal.returns-in-Monitor
 unfolding row_of
 returns-in-Monitor c =
-    arrive_one Monitor monitor refl (λ x. refl) c.in-Monitor.is c.requires c.load64-a.ensures c.fg_monitor.ensures c.is_in-in-Monitor.ensures
+    call_one Monitor monitor refl (λ x. refl) c.in-Monitor.is c.requires c.load64-a.ensures c.fg_monitor.ensures c.is_in-in-Monitor.ensures
 
 pub returns-in-Demonitor : goal.returns-in-Demonitor
 unfolding row_of
 returns-in-Demonitor c =
-    arrive_one Demonitor demonitor refl (λ x. refl) c.in-Demonitor.is c.requires c.load64-a.ensures c.fg_demonitor.ensures c.is_in-in-Demonitor.ensures
+    call_one Demonitor demonitor refl (λ x. refl) c.in-Demonitor.is c.requires c.load64-a.ensures c.fg_demonitor.ensures c.is_in-in-Demonitor.ensures
 
 pub returns-in-Exit : goal.returns-in-Exit
 unfolding row_of
 returns-in-Exit c =
-    arrive_one Exit exit refl (λ x. refl) c.in-Exit.is c.requires c.load64-a.ensures c.fg_exit.ensures c.is_in-in-Exit.ensures
+    call_one Exit exit refl (λ x. refl) c.in-Exit.is c.requires c.load64-a.ensures c.fg_exit.ensures c.is_in-in-Exit.ensures
 
 pub returns-in-Advance : goal.returns-in-Advance
 unfolding row_of
 returns-in-Advance c =
-    arrive_one Advance advance refl (λ x. refl) c.in-Advance.is c.requires c.load64-a.ensures c.fg_advance.ensures c.is_in-in-Advance.ensures
+    call_one Advance advance refl (λ x. refl) c.in-Advance.is c.requires c.load64-a.ensures c.fg_advance.ensures c.is_in-in-Advance.ensures
 
 pub returns-in-Report : goal.returns-in-Report
 unfolding row_of
 returns-in-Report c =
-    arrive_bare Report report refl refl c.in-Report.is c.requires c.fg_report.ensures c.is_in-in-Report.ensures
+    call_bare Report report refl refl c.in-Report.is c.requires c.fg_report.ensures c.is_in-in-Report.ensures
 
 pub returns-in-Subscribe : goal.returns-in-Subscribe
 unfolding row_of
 returns-in-Subscribe c =
-    arrive_one Subscribe subscribe refl (λ x. refl) c.in-Subscribe.is c.requires c.load64-a.ensures c.fg_subscribe.ensures c.is_in-in-Subscribe.ensures
+    call_one Subscribe subscribe refl (λ x. refl) c.in-Subscribe.is c.requires c.load64-a.ensures c.fg_subscribe.ensures c.is_in-in-Subscribe.ensures
 
 pub returns-in-Unsubscribe : goal.returns-in-Unsubscribe
 unfolding row_of
 returns-in-Unsubscribe c =
-    arrive_one Unsubscribe unsubscribe refl (λ x. refl) c.in-Unsubscribe.is c.requires c.load64-a.ensures c.fg_unsubscribe.ensures c.is_in-in-Unsubscribe.ensures
+    call_one Unsubscribe unsubscribe refl (λ x. refl) c.in-Unsubscribe.is c.requires c.load64-a.ensures c.fg_unsubscribe.ensures c.is_in-in-Unsubscribe.ensures
+
+pub returns-in-Read : goal.returns-in-Read
+returns-in-Read c = arrive_read _ _ c.requires (ap number c.in-Read.is) c.load64-a.ensures c.load64.ensures c.judge_read.ensures

@@ -9,10 +9,9 @@ returns-then-starts_with c =
     let a = c.args in
     let f = 4 + 8 * length a.front.now in
     let size = f + length a.text.now + 8 * length a.back.now - 2 in
-    let s = note-same c.from.result a.front.now a.text.now a.back.now a.r.now size (omega arith) (omega arith) c.from.type_inv (λ i. (c.type_inv.r i).fits) in
+    let s = note-same a.kind a.front.now a.text.now a.back.now a.r.now size (omega arith) (omega arith) c.ranges.kind.fits (λ i. (c.type_inv.r i).fits) in
     let t = leads_there a.text.now a.r.now f in
-    rw (← c.from.ensures)
-    (elim c.if-is_record.branch [
+    elim c.if-is_record.branch [
       | then-is_record w ↦ elim c.if-words_at.branch [
         | then-words_at v ↦
             c.words_at-then-starts_with.ensures
@@ -20,17 +19,16 @@ returns-then-starts_with c =
         | else-words_at v ↦ grind (arith, tests)
       ]
       | else-is_record w ↦ elim c.if-words_at.branch [ then-words_at v ↦ grind (arith, tests) | else-words_at v ↦ grind (arith, tests) ]
-    ])
+    ]
 
 pub returns-else-starts_with : goal.returns-else-starts_with
 returns-else-starts_with c =
     let a = c.args in
     let f = 4 + 8 * length a.front.now in
     let size = f + length a.text.now + 8 * length a.back.now - 2 in
-    let s = note-same c.from.result a.front.now a.text.now a.back.now a.r.now size (omega arith) (omega arith) c.from.type_inv (λ i. (c.type_inv.r i).fits) in
+    let s = note-same a.kind a.front.now a.text.now a.back.now a.r.now size (omega arith) (omega arith) c.ranges.kind.fits (λ i. (c.type_inv.r i).fits) in
     let t = leads_there a.text.now a.r.now f in
-    rw (← c.from.ensures)
-    (elim c.if-is_record.branch [
+    elim c.if-is_record.branch [
       | then-is_record w ↦ elim c.if-words_at.branch [
         | then-words_at v ↦
             c.if-starts_with.false
@@ -38,4 +36,4 @@ returns-else-starts_with c =
         | else-words_at v ↦ grind (arith, tests)
       ]
       | else-is_record w ↦ elim c.if-words_at.branch [ then-words_at v ↦ grind (arith, tests) | else-words_at v ↦ grind (arith, tests) ]
-    ])
+    ]

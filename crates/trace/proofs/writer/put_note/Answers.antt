@@ -8,6 +8,5 @@ returns c =
     let a = c.args in
     let room = c.put_frame.auto.s in
     let still = c.put_words.auto.s in
-    rw (← c.from.ensures)
-    (note_stored c.from.result a.front.now a.text.now a.back.now _ a.out.now _ _ _ _ (omega arith) c.put_frame.ensures c.put_words.ensures
-    (sets_part c.put_words.new.s _ _ c.copy_from_slice.new.self a.text.now (omega arith) c.copy_from_slice.ensures.after (omega arith)) c.put_words-2.ensures)
+    note_stored a.kind a.front.now a.text.now a.back.now _ a.out.now _ _ _ _ (omega arith) c.put_frame.ensures c.put_words.ensures
+    (sets_part c.put_words.new.s _ _ c.copy_from_slice.new.self a.text.now (omega arith) c.copy_from_slice.ensures.after (omega arith)) c.put_words-2.ensures

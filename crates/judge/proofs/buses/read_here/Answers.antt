@@ -1,7 +1,7 @@
 -- The front of the copy is lent, of 252 bytes or of the room where that is less; the call answers as to a slice of the room.
 use Rattle.std.proofs.Common.{rules}
 use Rattle.judge.proofs.BusLaws.{read-lent}
-use Rattle.judge.proofs.each.read_here.Goals as goal
+use Rattle.judge.proofs.buses.read_here.Goals as goal
 
 pub returns : goal.returns
 returns c =
