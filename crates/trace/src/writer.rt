@@ -11,6 +11,7 @@ use crate::kind::Kind;
 use crate::numbers::{put_words, words_at};
 use records::frame::{is_record, put_frame};
 use tables::limits::PAYLOAD_MOST;
+use tables::payload::copy;
 
 // What is recorded of a payload: all of it, or where it is over 252 bytes none of it.
 pub fn kept(payload: &[u8]) -> &[u8]
@@ -33,7 +34,7 @@ fn put_note(out: &mut [u8], kind: u16, front: &[u64], text: &[u8], back: &[u64])
     let size = e + 8 * back.len() - 2;
     put_frame(out, 0, size as u16, kind);
     put_words(out, 4, front);
-    out[f..e].copy_from_slice(text);
+    copy(out, f, text);
     put_words(out, e, back);
 }
 
