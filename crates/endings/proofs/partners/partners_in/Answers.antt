@@ -2,7 +2,7 @@
 use mathlib.Core.Path.{sym, ◌∙◌}
 use Rattle.endings.proofs.PartnerLaws.{partners_none, partners-more, partners-same}
 use lib.ListN.{length-replicate}
-use Rattle.std.specs.Prelude.{None}
+use Rattle.std.specs.Prelude.{ℕ, Option, None}
 use Rattle.tables.specs.Limits.{MOST-ACTORS}
 use Rattle.endings.proofs.partners.partners_in.Goals as goal
 use Rattle.endings.proofs.partners.partners_in.Goals.{in-Some, in_default}
@@ -10,7 +10,7 @@ use Rattle.endings.proofs.partners.partners_in.Goals.{in-Some, in_default}
 pub loop-e-init : goal.loop-e-init
 loop-e-init c =
     let e = c.requires.3 in
-    record { long = rw e (length-replicate MOST-ACTORS None); has = rw e (partners_none _ _ _) }
+    record { long = rw e (length-replicate {A = Option ℕ} MOST-ACTORS None); has = rw e (partners_none _ _ _) }
 
 pub loop-e-preserved : goal.loop-e-preserved
 loop-e-preserved c =
