@@ -15,7 +15,7 @@ use Rattle.rules.proofs.Reckoned.Clock.{fire_late, ticks}
 use Rattle.rules.proofs.Kept.Clock.{late_sized}
 use Rattle.endings.specs.Order.{Waiting}
 use Rattle.endings.proofs.EndingLaws.{fire-ends, fire-turn, late_fires}
-use Rattle.endings.proofs.FiringLaws.{waiting_ends, waiting_fires, waiting_next, waiting_rest, waiting_stops}
+use Rattle.endings.proofs.FiringLaws.{last_fires, last_next, last_rest, waiting_ends, waiting_stops}
 use Rattle.endings.proofs.advance.fire_row.Goals as goal
 
 pub returns-then-not-has_room : goal.returns-then-not-has_room
@@ -36,9 +36,9 @@ fire-requires c =
     let x = c.in-Some.i.now in
     let o : Waiting a.k s (length (row ++ x ∷ [])) (row ++ x ∷ []) = rw c.in-Some.ensures.steps at l.invariant.waiting in
     let r : has_room a.k s ≡ true = sym c.has_room.ensures ∙ c.if-not-has_room.false in
-    let e : next_due a.k s - 1 ≡ x = omega (arith, waiting_next a.k s row x o) in
+    let e : next_due a.k s - 1 ≡ x = omega (arith, last_next a.k s row x o) in
     let (clock, late) = l.invariant.raised in
-    (l.invariant.room, rw e at (late_fires a.k clock s late (waiting_fires a.k s row x o r)))
+    (l.invariant.room, rw e at (late_fires a.k clock s late (last_fires a.k s row x o r)))
 
 pub loop-i-preserved : goal.loop-i-preserved
 loop-i-preserved c =
@@ -51,8 +51,8 @@ loop-i-preserved c =
     let o : Waiting a.k s (length (row ++ x ∷ [])) (row ++ x ∷ []) = rw p at l.invariant.waiting in
     let b : l.count + (length row + 1) ≤ a.k.timers = rw (p, length_push row x) at l.invariant.few in
     let r : has_room a.k s ≡ true = sym c.has_room.ensures ∙ c.if-not-has_room.false in
-    let q = waiting_fires a.k s row x o r in
-    let e : next_due a.k s - 1 ≡ x = omega (arith, waiting_next a.k s row x o) in
+    let q = last_fires a.k s row x o r in
+    let e : next_due a.k s - 1 ≡ x = omega (arith, last_next a.k s row x o) in
     let d = c.fire.ensures in
     let v = l.invariant.raised in
     let z = (late_sized a.k v.0 s v.1).words in
@@ -62,7 +62,7 @@ loop-i-preserved c =
     record {
       room = d.room;
       raised = (v.0, rw d.is (rw e at (fire_late a.k (ticks a.k) v.0 s v.1 q)));
-      waiting = rw d.is (waiting_rest a.k s row x o (z TIMER-OWNER (lit< tt)) (z DUE (lit< tt)));
+      waiting = rw d.is (last_rest a.k s row x o (z TIMER-OWNER (lit< tt)) (z DUE (lit< tt)));
       few = omega arith;
       same = rw (d.is, m, ← e) (sym (fire-turn a.k l.count s n u q) ∙ l.invariant.same);
     }
