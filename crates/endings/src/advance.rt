@@ -76,8 +76,8 @@ fn fire_all(t: &mut [u64], p: &mut [u8], k: Caps) -> u64
 {
     let clock = get(t, p, k, CLOCK, 0);
     let mut places = [0u64; MOST_TIMERS];
-    let row = due_timers(t, p, k, clock, &mut places);
-    fire_row(t, p, k, row)
+    let m = due_timers(t, p, k, clock, &mut places);
+    fire_row(t, p, k, &places[..m])
 }
 
 // ---- deadlines
