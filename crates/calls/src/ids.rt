@@ -65,12 +65,20 @@ pub fn actor_id(t: &[u64], p: &[u8], k: Caps, a: u64) -> u64
     get(t, p, k, AGE, a) * ACTOR_FACTOR + a
 }
 
+// Is id that of a live actor?
+pub fn is_actor(t: &[u64], p: &[u8], k: Caps, id: u64) -> bool
+    requires { Room k t.now p.now }
+    ensures { Reads k (λ s. is_actor s id) t.now p.now result }
+{
+    is_live(t, p, k, STATE, AGE, ACTOR_FACTOR, id)
+}
+
 // The slot of a live actor, by its id. Unknown: there is none.
 pub(crate) fn actor(t: &[u64], p: &[u8], k: Caps, id: u64) -> Result<u64, Refusal>
     requires { Room k t.now p.now }
     ensures { Reads k (λ s. unless (not (is_actor s id)) Unknown (slot_of ACTOR-FACTOR id)) t.now p.now result }
 {
-    if !is_live(t, p, k, STATE, AGE, ACTOR_FACTOR, id) {
+    if !is_actor(t, p, k, id) {
         return Err(Refusal::Unknown);
     }
     Ok(id % ACTOR_FACTOR)
