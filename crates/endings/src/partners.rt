@@ -35,13 +35,7 @@ fn note(row: &mut [Option<u8>; MOST_ACTORS], b: u64, e: u8)
 }
 
 // Of the first n links those that slot x, which is one up, has with each slot, in a row that is lent and has none.
-fn partners_in(
-    one: &[u64],
-    two: &[u64],
-    x: u64,
-    n: usize,
-    row: &mut [Option<u8>; MOST_ACTORS],
-)
+fn partners_in(one: &[u64], two: &[u64], x: u64, n: usize, row: &mut [Option<u8>; MOST_ACTORS])
     requires { (n ≤ MOST-LINKS) × (n ≤ length one.now) × (n ≤ length two.now) × (row.old ≡ replicate MOST-ACTORS None) }
     ensures { Partners one.now two.now x n row.new }
 {

@@ -26,9 +26,7 @@ pub trait Held: fmt::Display + Drop {
 
 // How many things of a sort are in the name of the track in a slot.
 pub fn count<H: Held>(view: View<'_>, slot: usize) -> usize {
-    (0..H::MOST)
-        .filter(|i| H::is_in(view, slot, *i))
-        .count()
+    (0..H::MOST).filter(|i| H::is_in(view, slot, *i)).count()
 }
 
 // Does a column of owners name the track in a slot at place i?
