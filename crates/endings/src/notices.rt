@@ -1,5 +1,5 @@
 // Whom an actor that ends tells: its partners, and those who watch it.
-ghost use Rattle.std.specs.Prelude.{◌≡◌, true, suc, ◌<◌};
+ghost use Rattle.std.specs.Prelude.{◌≡◌, Some, true, suc, ◌<◌};
 ghost use Rattle.records.specs.Header.{packed};
 ghost use Rattle.records.specs.Records.{exit_bytes};
 ghost use Rattle.tables.specs.Columns.{WATCHED};
@@ -66,22 +66,11 @@ impl Leaver {
     }
 
     // ---- links
-    // The link with slot b ends, if there is one, and b is told.
-    fn cut_link(
-        self,
-        t: &mut [u64],
-        p: &mut [u8],
-        k: Caps,
-        n: Notices,
-        b: u64,
-        link: Option<u8>,
-    ) -> Notices
+    // Link e, which is with slot b, ends, and b is told.
+    fn cut_link(self, t: &mut [u64], p: &mut [u8], k: Caps, n: Notices, b: u64, e: u8) -> Notices
         requires { RoomWith k (λ s. Short s × (b < MOST-ACTORS) × Few n SAFE) t.old p.old }
-        ensures { Counted k (λ s. cut_entry k self.id self.reason b link (told_of n s)) t.old p.old result t.new p.new }
+        ensures { Counted k (λ s. cut_entry k self.id self.reason b (Some e) (told_of n s)) t.old p.old result t.new p.new }
     {
-        let Some(e) = link else {
-            return n;
-        };
         tie(t, p, k, e as u64, 0, 0);
         self.tell(t, p, k, n, b, 0)
     }
@@ -95,7 +84,9 @@ impl Leaver {
         note_partners(t, p, k, self.slot + 1, &mut row);
         let mut n = Notices::default();
         for b in 0..k.actors as u64 {
-            n = self.cut_link(t, p, k, n, b, row[b as usize]);
+            if let Some(e) = row[b as usize] {
+                n = self.cut_link(t, p, k, n, b, e);
+            }
         }
         n
     }
@@ -112,18 +103,6 @@ impl Leaver {
         self.tell(t, p, k, n, watcher - 1, age * MONITOR_FACTOR + i)
     }
 
-    // The same, if monitor i is on the actor.
-    fn cut_monitor(self, t: &mut [u64], p: &mut [u8], k: Caps, n: Notices, i: u64) -> Notices
-        requires { RoomWith k (λ s. Going k self.slot self.id s × (i < k.monitors) × Few n SAFE) t.old p.old }
-        ensures { Counted k (λ s. cut_monitor k self.slot self.id self.reason i (told_of n s)) t.old p.old result t.new p.new }
-    {
-        if get(t, p, k, WATCHED, i) == self.slot + 1 {
-            self.cut_eye(t, p, k, n, i)
-        } else {
-            n
-        }
-    }
-
     // All monitors on it end, by ascending monitor slot.
     pub fn cut_monitors(self, t: &mut [u64], p: &mut [u8], k: Caps) -> Notices
         requires { RoomWith k (Going k self.slot self.id) t.old p.old }
@@ -131,7 +110,9 @@ impl Leaver {
     {
         let mut n = Notices::default();
         for i in 0..k.monitors as u64 {
-            n = self.cut_monitor(t, p, k, n, i);
+            if get(t, p, k, WATCHED, i) == self.slot + 1 {
+                n = self.cut_eye(t, p, k, n, i);
+            }
         }
         n
     }

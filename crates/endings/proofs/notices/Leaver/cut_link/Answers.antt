@@ -1,14 +1,9 @@
--- There is a link with the slot, or not.
-use mathlib.Core.Path.{refl}
+-- The link ends, and then its partner is told.
 use native.Mathlib.Omega.{arith}
 use Rattle.tables.specs.State.{view}
 use Rattle.endings.specs.Partners.{cut_entry}
 use Rattle.endings.proofs.EndingLaws.{tie-short}
 use Rattle.endings.proofs.notices.Leaver.cut_link.Goals as goal
-
-pub returns-in_default : goal.returns-in_default
-unfolding cut_entry
-returns-in_default c = rw c.in_default.is (record { sent = refl; lost = refl; left = record { is = refl; room = c.requires.0 } })
 
 pub tell-requires : goal.tell-requires
 tell-requires c =
@@ -18,4 +13,4 @@ tell-requires c =
 
 pub returns : goal.returns
 unfolding cut_entry
-returns c = rw c.in-Some.is (rw c.tie.ensures.is at c.tell.ensures)
+returns c = rw c.tie.ensures.is at c.tell.ensures

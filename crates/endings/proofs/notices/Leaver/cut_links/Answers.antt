@@ -15,6 +15,7 @@ use Rattle.endings.specs.Partners.{Partners, cut_entry}
 use Rattle.endings.proofs.EndingLaws.{going_short, going_small, link_more, links_going, links-step, tells_told}
 use Rattle.endings.proofs.PartnerLaws.{cut-row}
 use Rattle.endings.proofs.notices.Leaver.cut_links.Goals as goal
+use Rattle.endings.proofs.notices.Leaver.cut_links.Goals.{in-Some, in_default}
 
 pub overflow_add-self : goal.overflow_add-self
 overflow_add-self c = omega (arith, going_small c.requires.1)
@@ -35,8 +36,8 @@ cut_link-n-requires c =
     (l.invariant.0, (going_short a.k a.self.slot a.self.id (view a.k l.t l.p) g, o, record { sent = omega (arith, l.invariant.2.sent); lost = omega (arith, l.invariant.2.lost) }))
 
 pub loop-b-preserved : goal.loop-b-preserved
+unfolding cut_entry
 loop-b-preserved c =
-    let d = c.cut_link-n in
     let w = c.loop-b-test.true in
     let l = c.loop-b in
     let q = c.note_partners.new.row in
@@ -46,8 +47,22 @@ loop-b-preserved c =
     let h : Partners (v LINK-ONE) (v LINK-TWO) (suc a.self.slot) a.k.links q = rw (add-one a.self.slot) at c.note_partners.ensures in
     let o : l.b < MOST-ACTORS = omega (arith, w, c.requires.0.caps.few_actors) in
     let r : cut_link a.k a.self.slot a.self.id a.self.reason l.b u ≡ cut_entry a.k a.self.id a.self.reason l.b (get_or q l.b None) u = rw l.invariant.1 (cut-row a.k a.self.slot a.self.id a.self.reason l.b v q c.requires.1 h o) in
-    let m = rw r at (link_more a.k a.self.slot a.self.id a.self.reason u l.b) in (
-      d.ensures.left.room,
-      rw (links-step a.k a.self.slot a.self.id a.self.reason (told 0 0 v) l.b, ← l.invariant.1, r) (tells_told d.ensures),
-      record { sent = omega (arith, d.ensures.sent, m.0, l.invariant.2.sent); lost = omega (arith, d.ensures.lost, m.1, l.invariant.2.lost) },
-    )
+    let s = links-step a.k a.self.slot a.self.id a.self.reason (told 0 0 v) l.b in
+    elim c.match-row-b.branch [
+      | in-Some w ↦
+          let d = w.cut_link-n in
+          let x = rw w.in-Some.is at r in
+          let m = rw x at (link_more a.k a.self.slot a.self.id a.self.reason u l.b) in
+          rw (w.t-is, w.p-is, w.n-is) (
+            d.ensures.left.room,
+            rw (s, ← l.invariant.1, x) (tells_told d.ensures),
+            record { sent = omega (arith, d.ensures.sent, m.0, l.invariant.2.sent); lost = omega (arith, d.ensures.lost, m.1, l.invariant.2.lost) },
+          )
+      | in_default w ↦
+          let x : cut_link a.k a.self.slot a.self.id a.self.reason l.b u ≡ u = rw w.in_default.is at r in
+          rw (w.t-is, w.p-is, w.n-is) (
+            l.invariant.0,
+            rw (s, ← l.invariant.1, x) refl,
+            record { sent = omega (arith, l.invariant.2.sent); lost = omega (arith, l.invariant.2.lost) },
+          )
+    ]
