@@ -3,3 +3,4 @@ pub mod ActionLaws
 pub mod BusLaws
 pub mod TimeLaws
 pub mod DropLaws
+pub mod LeaveLaws

@@ -66,7 +66,7 @@ pub(crate) fn note_partners(
     )
 }
 
-// The same row, made here.
+// The same row, made here; an exit lends its own (note_partners).
 pub fn partners(t: &[u64], p: &[u8], k: Caps, x: u64) -> [Option<u8>; MOST_ACTORS]
     requires { Room k t.now p.now }
     ensures { Of k (λ s. Partners (s LINK-ONE) (s LINK-TWO) x k.links result) t.now p.now }

@@ -53,7 +53,11 @@ fn sitters_ok(row: &[u8], seats: &[u64], limit: u64) -> bool
     requires { MOST-SEATS ≤ length seats.now }
     ensures { result ≡ test (each MOST-SEATS (λ n. sitter_in row.now limit (get_or seats.now n 0) n)) }
 {
-    (0..MOST_SEATS).all(|n| (seats[n] == 0) | (((n as u64) < limit) & lives(row, seats[n])))
+    let mut ok = true;
+    for n in 0..MOST_SEATS {
+        ok &= (seats[n] == 0) | (((n as u64) < limit) & lives(row, seats[n]));
+    }
+    ok
 }
 
 // Is none of them twice there? Each gets the stamp of this bus, which nobody has before.

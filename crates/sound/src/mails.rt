@@ -1,5 +1,5 @@
 // The rules of a mailbox entry, and of the message in it where its owner waits.
-ghost use Rattle.std.specs.Prelude.{◌*◌, ◌<◌};
+ghost use Rattle.std.specs.Prelude.{◌≡◌, ◌*◌, ◌/◌, ◌<◌, get_or};
 ghost use Rattle.pools.specs.Bits.{WORD-BITS};
 ghost use Rattle.rules.specs.Rule.{each};
 ghost use Rattle.rules.specs.Host.{Tests};
@@ -10,7 +10,7 @@ ghost use Rattle.tables.specs.State.{RoomWith};
 
 use crate::lists::zero_from;
 use crate::standing::{lives, waits};
-use pools::bits::{WORD_BITS, is_free};
+use pools::bits::{WORD_BITS, bit_of};
 use reading::filters::awaited;
 use reading::names::named;
 use tables::Caps;
@@ -43,14 +43,14 @@ impl Mails<'_> {
         fine
     }
 
-    // Entry e.
-    fn kept_ok(&self, e: usize) -> bool
-        requires { e < self.now.k.mails }
+    // Entry e, by the word that has its free bit.
+    fn kept_ok(&self, word: u64, e: usize) -> bool
+        requires { (e < self.now.k.mails) × (word ≡ get_or self.now.bits.now (e / WORD-BITS) 0) }
         ensures { Tests self.now.k (λ s. kept_rule self.now.k s e) self.now.t.now self.now.p.now result }
     {
         let owner = self.owners[e];
         let entry = self.entries[e];
-        if is_free(self.bits, e) {
+        if bit_of(word, e % WORD_BITS) == 1 {
             return (owner | entry) == 0;
         }
         self.keep_ok(owner, entry)
@@ -63,12 +63,17 @@ impl Mails<'_> {
     {
         let from = WORD_BITS * j;
         let end = self.k.mails.min(from + WORD_BITS);
-        if self.bits[j] == u64::MAX {
+        let word = self.bits[j];
+        if word == u64::MAX {
             let owned = zero_from(self.owners, from, end);
             let held = zero_from(self.entries, from, end);
             return owned & held;
         }
-        (from..end).all(|e| self.kept_ok(e))
+        let mut ok = true;
+        for e in from..end {
+            ok &= self.kept_ok(word, e);
+        }
+        ok
     }
 }
 

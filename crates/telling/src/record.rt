@@ -59,8 +59,8 @@ impl<'a> Record<'a> {
         self.number_from(FRAME + 8 * usize::from(i))
     }
 
-    // The number of the answer, of a call that can be told: the last, after a start's eight numbers and after the text of a notify or a publish;
-    // else it is after the four numbers of a bus, the two of a read, or the one of the others.
+    // The number of the answer: the last, after a start's eight numbers and after the text of a notify or a publish; else it is after the four
+    // numbers of a bus, the two of a read, or the one of the others that are looked at.
     fn answered(self) -> u64 {
         match self.kind {
             Kind::Start | Kind::Notify | Kind::Publish => {

@@ -1,0 +1,9 @@
+-- Who sits on a bus sits on one of those that there are.
+use native.Mathlib.Omega.{arith}
+use Rattle.actions.proofs.BusLaws.{sits-bus}
+use Rattle.actions.proofs.leaving.give_up_on.Goals as goal
+
+pub bounds-seats-b : goal.bounds-seats-b
+bounds-seats-b c =
+    let a = c.args in
+    omega (arith, sits-bus c.requires.0 a.b a.a c.requires.1 (omega (arith, c.seat_of-n.ensures, c.if-sits.true)))
