@@ -48,7 +48,7 @@ fn made(t: &[u64], p: &[u8], k: Caps) -> bool
 }
 
 // ---- who sits on a bus
-// The words of its seats: each is 0, or names a live actor in one of so many seats.
+// The words of its seats, with no way out: each is 0, or names a live actor in one of so many seats.
 fn sitters_ok(row: &[u8], seats: &[u64], limit: u64) -> bool
     requires { MOST-SEATS ≤ length seats.now }
     ensures { result ≡ test (each MOST-SEATS (λ n. sitter_in row.now limit (get_or seats.now n 0) n)) }

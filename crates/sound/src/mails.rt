@@ -43,35 +43,35 @@ impl Mails<'_> {
         fine
     }
 
-    // Entry e, by the word that has its free bit.
-    fn kept_ok(&self, word: u64, e: usize) -> bool
-        requires { (e < self.now.k.mails) × (word ≡ get_or self.now.bits.now (e / WORD-BITS) 0) }
+    // Entry e, by the free bits of its run.
+    fn kept_ok(&self, free: u64, e: usize) -> bool
+        requires { (e < self.now.k.mails) × (free ≡ get_or self.now.bits.now (e / WORD-BITS) 0) }
         ensures { Tests self.now.k (λ s. kept_rule self.now.k s e) self.now.t.now self.now.p.now result }
     {
         let owner = self.owners[e];
         let entry = self.entries[e];
-        if bit_of(word, e % WORD_BITS) == 1 {
+        if bit_of(free, e % WORD_BITS) == 1 {
             return (owner | entry) == 0;
         }
         self.keep_ok(owner, entry)
     }
 
-    // The run of entries that have their free bits in word j. Where all of it is free its words are joined.
+    // The run of entries that have their free bits in word j. Where all of it is free the words of owners and entries are joined; else there is no way out.
     fn run_ok(&self, j: usize) -> bool
         requires { WORD-BITS * j < self.now.k.mails }
         ensures { Tests self.now.k (λ s. mails_rule self.now.k s j) self.now.t.now self.now.p.now result }
     {
         let from = WORD_BITS * j;
         let end = self.k.mails.min(from + WORD_BITS);
-        let word = self.bits[j];
-        if word == u64::MAX {
+        let free = self.bits[j];
+        if free == u64::MAX {
             let owned = zero_from(self.owners, from, end);
             let held = zero_from(self.entries, from, end);
             return owned & held;
         }
         let mut ok = true;
         for e in from..end {
-            ok &= self.kept_ok(word, e);
+            ok &= self.kept_ok(free, e);
         }
         ok
     }

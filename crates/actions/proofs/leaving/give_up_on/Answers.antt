@@ -6,4 +6,4 @@ use Rattle.actions.proofs.leaving.give_up_on.Goals as goal
 pub bounds-seats-b : goal.bounds-seats-b
 bounds-seats-b c =
     let a = c.args in
-    omega (arith, sits-bus c.requires.0 a.b a.a c.requires.1 (omega (arith, c.seat_of-n.ensures, c.if-sits.true)))
+    omega (arith, sits-bus c.requires.0 a.b a.x c.requires.1 (omega (arith, c.seat_of-n.ensures, c.if-there.true)))

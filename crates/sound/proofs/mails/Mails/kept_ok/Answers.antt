@@ -27,5 +27,6 @@ returns-then-bit_of-eq1 c =
     let v = view m.k m.t.now m.p.now in
     let e = c.args.e in
     let h = m.lent.1 in
-    let word = rw h.free at c.requires.1 in
-    rw (h.owned, h.held) (kept_free m.k v e (eq-eqb (bit (get_or (v MAIL-FREE) (e / WORD-BITS) 0) (e % WORD-BITS)) 1 (rw (← word) (omega (arith, c.bit_of.ensures, c.if-bit_of-eq1.true)))))
+    let bits = rw h.free at c.requires.1 in
+    let set = bit (get_or (v MAIL-FREE) (e / WORD-BITS) 0) (e % WORD-BITS) in
+    rw (h.owned, h.held) (kept_free m.k v e (eq-eqb set 1 (rw (← bits) (omega (arith, c.bit_of.ensures, c.if-bit_of-eq1.true)))))

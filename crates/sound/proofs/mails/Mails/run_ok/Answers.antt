@@ -28,15 +28,15 @@ zero_from-held-requires c =
     let e : c.min-end.result ≡ min m.k.mails (64 * c.args.j + 64) = c.min-end.ensures in
     (omega (arith, e, c.requires), rw m.lent.1.held (omega (arith, e, view-full m.k m.t.now m.p.now m.lent.0.words MAIL-DATA (lit< tt))))
 
-pub returns-then-word : goal.returns-then-word
-returns-then-word c =
+pub returns-then-free : goal.returns-then-free
+returns-then-free c =
     let m = c.args.self.now in
     let v = view m.k m.t.now m.p.now in
     let h = m.lent.1 in
     let e : c.min-end.result ≡ min m.k.mails (64 * c.args.j + 64) = c.min-end.ensures in
     and_same (rw (h.owned, e) at c.zero_from-owned.ensures) (rw (h.held, e) at c.zero_from-held.ensures)
     ∙ run-free m.k v (64 * c.args.j) (min m.k.mails (64 * c.args.j + 64))
-    (λ e l n. word-free (v MAIL-FREE) c.args.j e (rw h.free at c.if-word.true) l (omega (arith, n)))
+    (λ e l n. word-free (v MAIL-FREE) c.args.j e (rw h.free at c.if-free.true) l (omega (arith, n)))
 
 pub loop-e-init : goal.loop-e-init
 loop-e-init c =
