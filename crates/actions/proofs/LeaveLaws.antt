@@ -1,4 +1,4 @@
--- One pass over the data entries ends all subscriptions of a slot as the rule does, which passes them again for each bus.
+-- One pass over the data entries ends all subscriptions of a slot as the rule does, which passes them again for each bus. Slot x is written one up.
 use Prim.Native.Nat.{ℕ, zero, suc, ◌+◌, ◌<◌}
 use mathlib.Core.Path.{◌≡◌, refl, sym, ap, ◌∙◌, fun_ext}
 use mathlib.Core.Bool.{true, false, cond, ◌&&◌, ◌||◌, and-false}
@@ -183,20 +183,20 @@ module _ (k : Caps) (a : ℕ) (s : State) where
   readers-had zero e = rw (had_none (at s VALUE-BUS e), and-false (ltb e k.datas))
   readers-had (suc b) e =
       let u = leave_buses k a b s in
-      let x = at s VALUE-BUS e in
+      let on = at s VALUE-BUS e in
       let j = seat_of (give_up (suc a) b s) b (suc a) in
       let ih = readers-had b e in
       let here = seat-same u (give_up (suc a) b s) b (suc a) (seats-same b) in
-      let bus : at u VALUE-BUS e ≡ x = ap (λ (l : List ℕ). get_or l e 0) ((wrote_leave_buses k a b s).cols VALUE-BUS refl) in
+      let bus : at u VALUE-BUS e ≡ on = ap (λ (l : List ℕ). get_or l e 0) ((wrote_leave_buses k a b s).cols VALUE-BUS refl) in
       let new : ltb b (suc b) ≡ true = lt-ltb b (suc b) (omega arith) in
-      let old : x ≡ suc b → at u READERS e ≡ at s READERS e = λ z. rw (z, le-ltb b b (omega arith), and-false (ltb e k.datas)) at ih in
+      let old : on ≡ suc b → at u READERS e ≡ at s READERS e = λ z. rw (z, le-ltb b b (omega arith), and-false (ltb e k.datas)) at ih in
       split (ltb j MOST-SEATS)
-      (λ q. rw (here, q) (forget-at b j k.datas u e ∙ split (eqb x (suc b))
-      (λ r. let z = eqb-true x (suc b) r in rw (bus, old z, z, new, q, eq-eqb (suc b) (suc b) refl))
-      (λ r. rw (bus, r, and-false (ltb e k.datas), had-other b x r) ih)))
-      (λ q. rw (here, q) (split (eqb x (suc b))
-      (λ r. let z = eqb-true x (suc b) r in rw (old z, z, new, q, and-false (ltb e k.datas)))
-      (λ r. rw (had-other b x r) ih)))
+      (λ q. rw (here, q) (forget-at b j k.datas u e ∙ split (eqb on (suc b))
+      (λ r. let z = eqb-true on (suc b) r in rw (bus, old z, z, new, q, eq-eqb (suc b) (suc b) refl))
+      (λ r. rw (bus, r, and-false (ltb e k.datas), had-other b on r) ih)))
+      (λ q. rw (here, q) (split (eqb on (suc b))
+      (λ r. let z = eqb-true on (suc b) r in rw (old z, z, new, q, and-false (ltb e k.datas)))
+      (λ r. rw (had-other b on r) ih)))
 
   -- THE LAW: the seats given up, and then one pass, leave what the rule leaves
   module _ (n : ℕ) (seats : List ℕ) (g : GivenUp s (suc a) n seats) where

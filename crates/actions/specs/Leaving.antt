@@ -11,7 +11,7 @@ use Rattle.rules.specs.Buses.{seat_at, seat_of, sits}
 abbrev pub give_up_on : ℕ → ℕ → State → State
 give_up_on x b s = cond (sits s b x) (poke s SEAT (seat_at b (seat_of s b x)) 0) s
 
--- those on the first buses, of which so many are made
+-- its seats on the first so many buses
 unfoldable pub give_up : ℕ → ℕ → State → State
 give_up x zero s = s
 give_up x (suc b) s = give_up_on x b (give_up x b s)
@@ -25,7 +25,7 @@ gave_up x (suc b) s = gave_up x b s || sits (give_up x b s) b x
 abbrev pub noted : ℕ → ℕ → State → List ℕ → List ℕ
 noted x b s seats = cond (sits s b x) (set seats b (seat_of s b x)) seats
 
--- the row has them, bus by bus: past the last seat where there was none
+-- the row says of each of the first so many buses which seat was given up: past the last where there was none, and on every bus after them
 pub record GivenUp (s : State) (x made : ℕ) (seats : List ℕ) : Type 0 where
   pub long : length seats ≡ MOST-BUSES
   pub seat : (b : ℕ) → get_or seats b MOST-SEATS ≡ cond (ltb b made) (seat_of (give_up x b s) b x) MOST-SEATS
@@ -46,7 +46,7 @@ strike_by seats d s =
     let n = given_up seats (at s VALUE-BUS d) in
     cond (ltb n MOST-SEATS) (strike n d s) s
 
--- nor the first d of them
+-- nor any of the first d data entries
 unfoldable pub forget_by : List ℕ → ℕ → State → State
 forget_by seats zero s = s
 forget_by seats (suc d) s = strike_by seats d (forget_by seats d s)

@@ -34,7 +34,7 @@ fn forget_one(t: &mut [u64], p: &[u8], k: Caps, b: u64, n: u64, d: u64)
     }
 }
 
-// It may read nothing of the bus any more.
+// The one in seat n may read nothing of bus b any more.
 fn forget(t: &mut [u64], p: &[u8], k: Caps, b: u64, n: u64)
     requires { Room k t.old p.now × (b < SAFE) × (n < MOST-SEATS) }
     ensures { Makes k (forget b n k.datas) t.old p.now t.new p.now }
@@ -54,7 +54,7 @@ pub fn stand_up(t: &mut [u64], p: &[u8], k: Caps, b: u64, n: u64)
     put(t, p, k, SEAT, seat_at(b, n), 0);
 }
 
-// ---- all buses: the seats are given up first, and noted in a row; then each data entry is passed once, for all of them. Slot x is written one up
+// ---- all buses: the seats are given up first, and noted in a row; then each data entry is passed once, for all of these buses. Slot x is written one up
 // Slot x gives up its seat on bus b, if it has one, and the row says which. Had it one?
 fn give_up_on(
     t: &mut [u64],
@@ -118,7 +118,7 @@ fn strike_by(t: &mut [u64], p: &[u8], k: Caps, seats: &[u8; MOST_BUSES], d: u64)
     }
 }
 
-// Nor any of them.
+// No data entry may be read any more from a seat that was given up.
 fn forget_by(t: &mut [u64], p: &[u8], k: Caps, seats: &[u8; MOST_BUSES])
     requires { Room k t.old p.now × (length seats.now ≡ MOST-BUSES) }
     ensures { Makes k (forget_by seats.now k.datas) t.old p.now t.new p.now }

@@ -1,4 +1,4 @@
--- Who sits on a bus sits on one of those that there are.
+-- Who sits on a bus sits on one of the 32 that a box can have, so the row has a place for it.
 use native.Mathlib.Omega.{arith}
 use Rattle.actions.proofs.BusLaws.{sits-bus}
 use Rattle.actions.proofs.leaving.give_up_on.Goals as goal
